@@ -1,0 +1,4 @@
+pub mod Viable
+pub mod Fronts
+pub mod Predictive
+pub mod Longest

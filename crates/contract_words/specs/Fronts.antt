@@ -1,0 +1,13 @@
+-- Fronts of a list of bytes.
+use Rattle.std.specs.Prelude.{◌≡◌, ℕ, ◌++◌, List}
+
+-- the bytes begin with the front
+pub record IsFront (front bytes : List ℕ) : Type 0 where
+  pub rest : List ℕ
+  pub whole : bytes ≡ front ++ rest
+
+-- some front of the bytes was put behind what was held
+pub record GrewByFront (bytes old new : List ℕ) : Type 0 where
+  pub front : List ℕ
+  pub of_bytes : IsFront front bytes
+  pub grew : new ≡ old ++ front

@@ -1,0 +1,50 @@
+-- Rules in a row, and when one byte tells which way a rule goes.
+use Rattle.std.specs.Prelude.{◌≡◌, ◌<◌, ◌≤◌, ◌∷◌, ◌++◌, [], ◌&&◌, ◌||◌, ℕ, suc, Bool, true, false, List, length, take, Option, Some, None, ◌⊎◌, if◌then◌else◌}
+use Rattle.contract_words.specs.Grammar.{Rule, nothing, byte, alt, seq, many, spells, viable, nullable, first, after}
+
+abbrev pub viable_row : List Rule → List ℕ → Type 0
+viable_row [] text = text ≡ []
+viable_row (r ∷ rs) text = viable r text ⊎ ((x : List ℕ) × (y : List ℕ) × spells r x × viable_row rs y × (text ≡ x ++ y))
+
+abbrev pub row_first : List Rule → ℕ → Bool
+row_first [] b = false
+row_first (r ∷ rs) b = first r b || (nullable r && row_first rs b)
+
+abbrev pub Apart : (ℕ → Bool) → (ℕ → Bool) → Type 0
+Apart p q = (b : ℕ) → p b ≡ true → q b ≡ true → ⊥
+
+-- before what may begin with a byte of `next`, one byte tells how the rule goes on
+abbrev pub fits : Rule → (ℕ → Bool) → Type 0
+fits nothing next = Unit {0}
+fits (byte p) next = Unit {0}
+fits (alt l r) next = Apart (first l) (first r) × fits l next × fits r next
+fits (seq l r) next =
+    fits l (λ b. first r b || (nullable r && next b))
+    × (nullable l ≡ true → Apart (first l) (λ b. first r b || (nullable r && next b)))
+    × fits r next
+    × (nullable r ≡ true → Apart (first r) next)
+fits (many a) next = (nullable a ≡ false) × fits a (λ b. first a b || next b) × Apart (first a) next
+
+abbrev pub fits_row : List Rule → Type 0
+fits_row [] = Unit {0}
+fits_row (r ∷ rs) = fits r (row_first rs) × (nullable r ≡ true → Apart (first r) (row_first rs)) × fits_row rs
+
+-- the row after a byte, if it takes the byte
+abbrev pub step : List Rule → ℕ → Option (List Rule)
+step [] b = None
+step (r ∷ rs) b = if first r b then Some (after r b ++ rs) else (if nullable r then step rs b else None)
+
+-- how many bytes the row takes
+abbrev pub one_more : Option (List Rule) → (List Rule → ℕ) → ℕ
+one_more None f = 0
+one_more (Some rs) f = suc (f rs)
+
+abbrev pub stop : List Rule → List ℕ → ℕ
+stop rs [] = 0
+stop rs (b ∷ text) = one_more (step rs b) (λ ss. stop ss text)
+
+-- the longest viable front of the text has this length
+pub record IsLongest (rs : List Rule) (text : List ℕ) (n : ℕ) : Type 0 where
+  pub within : n ≤ length text
+  pub begun : viable_row rs (take n text)
+  pub never_more : (m : ℕ) → n < m → m ≤ length text → viable_row rs (take m text) → ⊥
