@@ -1,0 +1,2 @@
+-- What a call of a disk did.
+pub mod Calls

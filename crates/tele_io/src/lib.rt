@@ -1,0 +1,10 @@
+//! Disks and sinks by what they hold and how often they failed, and calls over any of them.
+#![tactic(auto)]
+
+mod append;
+mod disk;
+mod sink;
+
+pub use append::{append_all, write_all};
+pub use disk::{Disk, DiskFault};
+pub use sink::{Sink, SinkFault};
