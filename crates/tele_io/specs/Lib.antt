@@ -1,2 +1,4 @@
--- What a call of a disk did.
+-- What a call of a disk did, and what the lines of an input answer.
 pub mod Calls
+pub mod Mark
+pub mod Reading

@@ -3,8 +3,12 @@
 
 mod append;
 mod disk;
+mod lines;
+mod piece;
+mod reader;
 mod sink;
 
 pub use append::{append_all, write_all};
 pub use disk::{Disk, DiskFault};
+pub use lines::{LineStop, Lines};
 pub use sink::{Sink, SinkFault};

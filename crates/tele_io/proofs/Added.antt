@@ -6,14 +6,14 @@ use Rattle.contract_words.specs.Held.{Held, SameHeld, OthersStay, Appended, Adds
 use Rattle.tele_io.specs.Calls.{Adds}
 
 -- what was taken so far, and what is left
-pub record Taken (name bytes rest : List ℕ) (old new : Held) : Type 0 where
+pub record AddedSoFar (name bytes rest : List ℕ) (old new : Held) : Type 0 where
   pub taken : List ℕ
   pub parts : bytes ≡ taken ++ rest
   pub added : (was : List ℕ) → old name ≡ Some was → new name ≡ Some (was ++ taken)
   pub absent : old name ≡ None → (new name ≡ None) × (taken ≡ [])
   pub others : OthersStay name old new
 
-pub begins : (name bytes : List ℕ) (held : Held) → Taken name bytes bytes held held
+pub begins : (name bytes : List ℕ) (held : Held) → AddedSoFar name bytes bytes held held
 begins name bytes held = record {
   taken = [];
   parts = refl;
@@ -29,7 +29,7 @@ not_absent : (o : Option (List ℕ)) (v : List ℕ) → o ≡ None → o ≡ Som
 not_absent o v e f = cc
 
 -- one more piece was taken
-pub grows : (name bytes rest : List ℕ) (count : ℕ) (old mid new : Held) → Taken name bytes rest old mid → Appended name rest count mid new → Taken name bytes (drop count rest) old new
+pub grows : (name bytes rest : List ℕ) (count : ℕ) (old mid new : Held) → AddedSoFar name bytes rest old mid → Appended name rest count mid new → AddedSoFar name bytes (drop count rest) old new
 grows name bytes rest count old mid new t a =
     let there = a.there in
     record {
@@ -43,7 +43,7 @@ grows name bytes rest count old mid new t a =
     }
 
 -- what was taken is a front of the bytes, also where a last call changed nothing
-pub is_front : (name bytes rest : List ℕ) (old mid new : Held) → Taken name bytes rest old mid → SameHeld mid new → AddsFront name bytes old new
+pub is_front : (name bytes rest : List ℕ) (old mid new : Held) → AddedSoFar name bytes rest old mid → SameHeld mid new → AddsFront name bytes old new
 is_front name bytes rest old mid new t same = record {
   front = (t.taken, record { rest = rest; whole = t.parts }, λ was e. same name ∙ t.added was e);
   absent = λ e. same name ∙ (t.absent e).0;
@@ -51,7 +51,7 @@ is_front name bytes rest old mid new t same = record {
 }
 
 -- nothing is left
-pub is_all : (name bytes rest : List ℕ) (old new : Held) → Taken name bytes rest old new → rest ≡ [] → Adds name bytes old new
+pub is_all : (name bytes rest : List ℕ) (old new : Held) → AddedSoFar name bytes rest old new → rest ≡ [] → Adds name bytes old new
 is_all name bytes rest old new t none =
     let all : bytes ≡ t.taken = t.parts ∙ (ap (λ (l : List ℕ). t.taken ++ l) none ∙ append-nil t.taken) in
     record {
@@ -61,29 +61,29 @@ is_all name bytes rest old new t none =
     }
 
 -- the same of a stream
-pub record Written (bytes rest old new : List ℕ) : Type 0 where
+pub record WrittenSoFar (bytes rest old new : List ℕ) : Type 0 where
   pub taken : List ℕ
   pub parts : bytes ≡ taken ++ rest
   pub added : new ≡ old ++ taken
 
-pub write_begins : (bytes held : List ℕ) → Written bytes bytes held held
+pub write_begins : (bytes held : List ℕ) → WrittenSoFar bytes bytes held held
 write_begins bytes held = record { taken = []; parts = refl; added = sym (append-nil held) }
 
-pub write_grows : (bytes rest : List ℕ) (count : ℕ) (old mid new : List ℕ) → Written bytes rest old mid → new ≡ mid ++ take count rest → Written bytes (drop count rest) old new
+pub write_grows : (bytes rest : List ℕ) (count : ℕ) (old mid new : List ℕ) → WrittenSoFar bytes rest old mid → new ≡ mid ++ take count rest → WrittenSoFar bytes (drop count rest) old new
 write_grows bytes rest count old mid new w e = record {
   taken = w.taken ++ take count rest;
   parts = w.parts ∙ (ap (λ (l : List ℕ). w.taken ++ l) (sym (take-append-drop count rest)) ∙ sym (append_assoc w.taken (take count rest) (drop count rest)));
   added = e ∙ (ap (λ (l : List ℕ). l ++ take count rest) w.added ∙ append_assoc old w.taken (take count rest));
 }
 
-pub write_front : (bytes rest old mid new : List ℕ) → Written bytes rest old mid → new ≡ mid → GrewByFront bytes old new
+pub write_front : (bytes rest old mid new : List ℕ) → WrittenSoFar bytes rest old mid → new ≡ mid → GrewByFront bytes old new
 write_front bytes rest old mid new w same = record {
   front = w.taken;
   of_bytes = record { rest = rest; whole = w.parts };
   grew = same ∙ w.added;
 }
 
-pub write_all_of : (bytes rest old new : List ℕ) → Written bytes rest old new → rest ≡ [] → new ≡ old ++ bytes
+pub write_all_of : (bytes rest old new : List ℕ) → WrittenSoFar bytes rest old new → rest ≡ [] → new ≡ old ++ bytes
 write_all_of bytes rest old new w none =
     let all : bytes ≡ w.taken = w.parts ∙ (ap (λ (l : List ℕ). w.taken ++ l) none ∙ append-nil w.taken) in
     w.added ∙ ap (λ (l : List ℕ). old ++ l) (sym all)
