@@ -96,6 +96,12 @@ Takes file old new (Ok (Some v)) = left file old ≡ line v.items (left file new
 Takes file old new (Ok None) = (left file old ≡ ended) × (left file new ≡ ended)
 Takes file old new (Err e) = TakesNone file old new e
 
+-- each line that is handed out is counted, up to the limit
+abbrev pub Advances : {T : Type 0} → ℕ → ℕ → Result (Option T) LineStop → Type 0
+Advances old new (Ok (Some v)) = (old < new) × (new ≤ 1000000)
+Advances old new (Ok None) = old ≤ new
+Advances old new (Err stop) = old ≤ new
+
 -- no more is asked after a fault and after a line past a limit
 abbrev pub Keeps : {T : Type 0} → Bool → Result T LineStop → Type 0
 Keeps live (Ok x) = live ≡ true

@@ -3,7 +3,7 @@
 ghost use Rattle.std.specs.Prelude.{◌≡◌, ℕ, List, Option, IsTrue, IsSome, IfOk, OnOk};
 ghost use Rattle.contract_words.specs.Held.{SameHeld};
 ghost use Rattle.tele_io.specs.Mark.{IsAhead};
-ghost use Rattle.tele_io.specs.Reading.{Progress, start_of, Takes, FaultRose, Keeps};
+ghost use Rattle.tele_io.specs.Reading.{Progress, start_of, Takes, Advances, FaultRose, Keeps};
 
 use crate::disk::Disk;
 use crate::reader::Reader;
@@ -63,6 +63,7 @@ impl Lines {
         ensures again { D.tells disk.old → IsAhead (D.held disk.old self.old.mark.name) self.old.mark → IsAhead (D.held disk.old self.old.mark.name) self.new.mark }
         ensures name { self.new.mark.name ≡ self.old.mark.name }
         ensures live { Keeps self.new.live result }
+        ensures counts { Advances self.old.mark.count self.new.mark.count result }
         // When a fault comes.
         ensures cause { FaultRose (D.read_faults disk.old) (D.read_faults disk.new) result }
         // What stays.

@@ -4,7 +4,7 @@ ghost use Rattle.std.specs.Prelude.{◌≡◌, ◌+◌, ◌++◌, ◌≤◌, ◌
 ghost use Rattle.contract_words.specs.Causes.{HasCause};
 ghost use Rattle.contract_words.specs.Held.{SameHeld, rest_from};
 ghost use Rattle.tele_io.specs.Mark.{Mark, SameLines, IsAhead};
-ghost use Rattle.tele_io.specs.Reading.{Unbroken, BeginsBroken, Cuts, Finishes, Counts, FaultRose, NextLine, Takes};
+ghost use Rattle.tele_io.specs.Reading.{Unbroken, BeginsBroken, Cuts, Finishes, Counts, FaultRose, NextLine, Takes, Advances};
 ghost use Rattle.contract_words.specs.InputLines.{is_blank};
 
 use crate::disk::{Disk, DiskFault};
@@ -177,6 +177,7 @@ impl Reader {
     /// The next line that isn't blank.
     pub fn next_line<D: Disk>(&mut self, disk: &mut D) -> Result<Option<Vec<u8>>, LineStop>
         ensures name { self.new.name ≡ self.old.name }
+        ensures counts { Advances self.old.count self.new.count result }
         ensures next { D.tells disk.old → IsAhead (D.held disk.old self.old.name) self.old → Takes (D.held disk.old self.old.name) self.old self.new result }
         ensures there { D.tells disk.old → IsAhead (D.held disk.old self.old.name) self.old → OnOk result (IsSome (D.held disk.old self.old.name)) }
         ensures again { D.tells disk.old → IsAhead (D.held disk.old self.old.name) self.old → IsAhead (D.held disk.old self.old.name) self.new }
