@@ -80,22 +80,32 @@ Tells NoMemory input = Unit {0}
 Tells WriteFault input = Unit {0}
 Tells Usage input = ⊥
 
--- Counts of faults of the disk's reads, of its writes, of the output and of the notes.
+-- the counts of faults of the disk's reads, of its writes, of the output and of the notes
 pub record Faults : Type 0 where
   pub reads : ℕ
   pub writes : ℕ
   pub out : ℕ
   pub notes : ℕ
 
--- no count fell, and none but the reads' rose where a read failed; ..
+abbrev pub faults : ℕ → ℕ → ℕ → ℕ → Faults
+faults reads writes out notes = record { reads = reads; writes = writes; out = out; notes = notes }
+
+-- each count is as it was
+pub record SameFaults (old new : Faults) : Type 0 where
+  pub reads : new.reads ≡ old.reads
+  pub writes : new.writes ≡ old.writes
+  pub out : new.out ≡ old.out
+  pub notes : new.notes ≡ old.notes
+
+-- a fault comes only where its count rose, and a complete run leaves all counts
 abbrev pub Caused : Status → Faults → Faults → Type 0
-Caused Done old new = new ≡ old
-Caused SomeRefused old new = new ≡ old
-Caused TooLong old new = new ≡ old
-Caused NoMemory old new = new ≡ old
-Caused Usage old new = new ≡ old
+Caused Done old new = SameFaults old new
+Caused SomeRefused old new = SameFaults old new
 Caused ReadFault old new = Rose old.reads new.reads
 Caused WriteFault old new = Rose old.writes new.writes ⊎ Rose old.out new.out ⊎ Rose old.notes new.notes
+Caused Usage old new = Unit {0}
+Caused NoMemory old new = Unit {0}
+Caused TooLong old new = Unit {0}
 
 -- no count rose
 pub record NoneRose (old new : Faults) : Type 0 where
@@ -103,3 +113,14 @@ pub record NoneRose (old new : Faults) : Type 0 where
   pub writes : Rose old.writes new.writes → ⊥
   pub out : Rose old.out new.out → ⊥
   pub notes : Rose old.notes new.notes → ⊥
+
+-- What is answered where no count rose: within the limits a complete run tells whether a line was refused; past them it
+-- is too long. Memory may run out.
+abbrev pub Answers : Status → Taken → Type 0
+Answers Done input = (passes_limit input ≡ false) × (count_refused (lines_in input) ≡ 0)
+Answers SomeRefused input = (passes_limit input ≡ false) × (0 < count_refused (lines_in input))
+Answers TooLong input = passes_limit input ≡ true
+Answers NoMemory input = Unit {0}
+Answers ReadFault input = ⊥
+Answers WriteFault input = ⊥
+Answers Usage input = ⊥

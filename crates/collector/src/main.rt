@@ -3,6 +3,7 @@
 
 mod pass;
 mod payload;
+mod run;
 mod status;
 
 use std::process::ExitCode;
