@@ -4,6 +4,7 @@
 mod append;
 mod disk;
 mod lines;
+mod memory;
 mod piece;
 mod reader;
 mod sink;
@@ -11,4 +12,5 @@ mod sink;
 pub use append::{append_all, write_all};
 pub use disk::{Disk, DiskFault};
 pub use lines::{LineStop, Lines};
+pub use memory::{DiskOp, MemDisk, MemSink};
 pub use sink::{Sink, SinkFault};
