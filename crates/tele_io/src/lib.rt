@@ -3,6 +3,7 @@
 
 mod append;
 mod disk;
+mod host;
 mod lines;
 mod memory;
 mod piece;
@@ -11,6 +12,7 @@ mod sink;
 
 pub use append::{append_all, write_all};
 pub use disk::{Disk, DiskFault};
+pub use host::{HostDisk, HostSink};
 pub use lines::{LineStop, Lines};
 pub use memory::{DiskOp, MemDisk, MemSink};
 pub use sink::{Sink, SinkFault};
