@@ -4,6 +4,7 @@ use Rattle.contract_words.specs.Causes.{Rose}
 use Rattle.contract_words.specs.Fronts.{IsFront, GrewByFront}
 use Rattle.contract_words.specs.Held.{Held, SameHeld, OthersStay}
 use Rattle.contract_words.specs.InputLines.{Taken}
+use Rattle.collector.specs.Words.{usage_line}
 use Rattle.collector.specs.Pass.{lines_in, passes_limit, pass_text, pass_notes, count_refused, summary}
 use Rattle.collector.specs.declared.status.Status.{Status}
 use Rattle.collector.specs.declared.status.Status.TheVariants.{Done, SomeRefused, Usage, ReadFault, WriteFault, NoMemory, TooLong}
@@ -69,6 +70,16 @@ Leaves NoMemory input output old new out_old out_new notes_old notes_new =
 Leaves WriteFault input output old new out_old out_new notes_old notes_new =
     AfterFronts input output old new out_old out_new notes_old notes_new
 Leaves Usage input output old new out_old out_new notes_old notes_new = ⊥
+
+-- what words of no command leave in the notes: the line of usage, or a front of it where it can't be written
+abbrev pub LeavesUsage : Status → List ℕ → List ℕ → Type 0
+LeavesUsage Usage notes_old notes_new = notes_new ≡ notes_old ++ usage_line
+LeavesUsage WriteFault notes_old notes_new = GrewByFront usage_line notes_old notes_new
+LeavesUsage Done notes_old notes_new = ⊥
+LeavesUsage SomeRefused notes_old notes_new = ⊥
+LeavesUsage ReadFault notes_old notes_new = ⊥
+LeavesUsage NoMemory notes_old notes_new = ⊥
+LeavesUsage TooLong notes_old notes_new = ⊥
 
 -- what the status tells of the input
 abbrev pub Tells : Status → Taken → Type 0

@@ -1,5 +1,6 @@
 -- The table of commands, and what `pass` makes of an input.
 pub mod Words
+pub mod Asked
 pub mod Payload
 pub mod Pass
 -- What stands after each end of a run.

@@ -55,6 +55,7 @@ pub fn run_pass<D: Disk, O: Sink, N: Sink>(alloc: Global, input: &str, output: &
     ensures leaves { D.tells disk.old → O.tells out.old → N.tells notes.old → Leaves result (input_of (D.held disk.old) input.now) output.now (D.held disk.old) (D.held disk.new) (O.held out.old) (O.held out.new) (N.held notes.old) (N.held notes.new) }
     ensures others { D.tells disk.old → OthersStay output.now (D.held disk.old) (D.held disk.new) }
     // When each status comes.
+    ensures no_usage { result ≢ Status.Usage }
     ensures told { D.tells disk.old → Tells result (input_of (D.held disk.old) input.now) }
     ensures cause { Caused result (faults (D.read_faults disk.old) (D.write_faults disk.old) (O.faults out.old) (N.faults notes.old)) (faults (D.read_faults disk.new) (D.write_faults disk.new) (O.faults out.new) (N.faults notes.new)) }
     ensures complete { D.tells disk.old → NoneRose (faults (D.read_faults disk.old) (D.write_faults disk.old) (O.faults out.old) (N.faults notes.old)) (faults (D.read_faults disk.new) (D.write_faults disk.new) (O.faults out.new) (N.faults notes.new)) → Answers result (input_of (D.held disk.old) input.now) }
