@@ -1,2 +1,7 @@
-pub mod Numerals
+pub mod Tests
+pub mod Maps
 pub mod PairSteps
+pub mod Measures
+pub mod Sames
+pub mod SameSteps
+pub mod Numerals

@@ -4,30 +4,10 @@ use Rattle.std.specs.Prelude.{◌⊎◌, ◌&&◌, ◌||◌, ◌==◌}
 use Rattle.std.specs.Str.{bytes_eq}
 use Rattle.std.proofs.lemmas.List.{append-nil}
 use Rattle.std.proofs.lemmas.Bool.Decides.{nat_tests}
-use Rattle.std.proofs.lemmas.Slice.Eq.{bytes_eq-Decides}
 use Rattle.contract_words.specs.Grammar.{Rule, byte, seq, many, spells, Turns}
 use Rattle.pdata_value.specs.Numeral.{optional, digits, int, frac, exp, numeral, is_digit, is_leading, is_e, is_sign, IsSpelling}
+use Rattle.pdata_value.proofs.Tests.{picks, skips, both, left, right, same_bytes, bytes_same}
 use Rattle.pdata_value.specs.Scan.{after_digits, is_nothing, are_digits, is_power, is_exponent, is_fraction, is_scale, is_unsigned, is_numeral, is_spelling}
-
-picks : {A : Type 0} (t : Bool) (x y : A) → t ≡ true → cond t x y ≡ x
-picks true x y h = refl
-picks false x y h = absurd cc
-
-skips : {A : Type 0} (t : Bool) (x y : A) → t ≡ false → cond t x y ≡ y
-skips true x y h = absurd cc
-skips false x y h = refl
-
-both : (a b : Bool) → a ≡ true → b ≡ true → (a && b) ≡ true
-both true b h k = k
-both false b h k = absurd cc
-
-left : (a b : Bool) → (a && b) ≡ true → a ≡ true
-left true b h = refl
-left false b h = absurd cc
-
-right : (a b : Bool) → (a && b) ≡ true → b ≡ true
-right true b h = h
-right false b h = absurd cc
 
 -- kinds of bytes
 digit_no-sign : (b : ℕ) → is_digit b ≡ true → is_sign b ≡ false
@@ -253,12 +233,6 @@ pub numeral_read : (text : List ℕ) → spells numeral text → is_numeral text
 numeral_read text s = numeral_parts text s.0 s.1 s.2 (unsigned_read s.1 s.3) s.4
 
 -- a numeral or one of the words
-same_bytes : (xs ys : List ℕ) → bytes_eq xs ys ≡ true → xs ≡ ys
-same_bytes xs ys h = grind (arith, bytes_eq-Decides)
-
-bytes_same : (xs ys : List ℕ) → xs ≡ ys → bytes_eq xs ys ≡ true
-bytes_same xs ys h = grind (arith, bytes_eq-Decides)
-
 any_of : (a b c d : Bool) → (a || b || c || d) ≡ true → (a ≡ true) ⊎ (b ≡ true) ⊎ (c ≡ true) ⊎ (d ≡ true)
 any_of true b c d h = inl refl
 any_of false true c d h = inr (inl refl)

@@ -3,8 +3,11 @@
 
 mod bytes;
 mod error;
+mod measure;
+mod merge;
 mod numeral;
 mod pairs;
+mod same;
 mod spelling;
 mod text;
 mod value;
@@ -12,6 +15,7 @@ mod values;
 
 pub use bytes::Bytes;
 pub use error::{EvalErr, EvalStop};
+pub use merge::Strategy;
 pub use pairs::Pairs;
 pub use spelling::{Spelling, SpellingStop};
 pub use text::Text;

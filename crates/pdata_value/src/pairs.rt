@@ -3,7 +3,7 @@
 ghost use Rattle.std.specs.Prelude.{◌≡◌, ◌++◌, ◌∷◌, [], length, slice_get, IfOk, OnOk, OnErr, MatchOption, option_map};
 ghost use Rattle.std.specs.Option.{option_copied};
 ghost use Rattle.pdata_value.specs.Value.{pairs};
-ghost use Rattle.pdata_value.specs.Pairs.{get, put};
+ghost use Rattle.pdata_value.specs.Pairs.{get, has_key, put};
 ghost use Rattle.pdata_value.specs.Places.{PutsAt};
 
 use crate::text::Text;
@@ -124,4 +124,15 @@ impl Pairs {
         }
         Ok(Pairs { items })
     }
+}
+
+pub(crate) fn has_key(list: &[(Text, Value)], key: &str) -> bool
+    ensures { result ≡ has_key list.now key.now }
+{
+    for pair in list {
+        if pair.0.as_str() == key {
+            return true;
+        }
+    }
+    false
 }
