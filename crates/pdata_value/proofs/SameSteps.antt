@@ -1,5 +1,5 @@
 -- Steps of the comparison of lists and maps.
-use Rattle.std.proofs.Common.{◌≡◌, ◌∙◌, ℕ, zero, suc, ◌+◌, ◌<◌, Bool, true, false, List, [], ◌∷◌, ◌++◌, length, take, drop, get_or, refl, sym, ap, subst, arith, cond}
+use Rattle.std.proofs.Common.{◌≡◌, ◌∙◌, ℕ, suc, ◌+◌, ◌<◌, Bool, true, false, List, [], ◌∷◌, ◌++◌, length, take, drop, get_or, refl, ap, subst}
 use Rattle.std.specs.Prelude.{◌&&◌, ◌||◌, Option, Some, None}
 use Rattle.std.specs.Str.{bytes_eq}
 use Rattle.pdata_value.specs.Pairs.{get, has_key}
@@ -7,7 +7,7 @@ use Rattle.pdata_value.specs.Places.{keys_within}
 use Rattle.pdata_value.specs.Same.{same, same_items, same_answer, same_keys, same_pairs}
 use Rattle.pdata_value.specs.declared.value.Value.{Value}
 use Rattle.pdata_value.proofs.Tests.{left, right, both, and_false, and_assoc, or_true, same_bytes, bytes_self}
-use Rattle.pdata_value.proofs.Maps.{get-past, get-first, get-missing, get-there, split_at, take-one}
+use Rattle.pdata_value.proofs.Maps.{get-first, get-missing, get-there, split_at, take-one}
 
 -- lists of different lengths
 pub lengths_differ : (vs ws : List Value) → (length vs ≡ length ws → ⊥) → same_items vs ws ≡ false

@@ -16,7 +16,7 @@ use std::mem;
 #[cycle(value)]
 #[derive(Drop)]
 pub struct Pairs {
-    items: ItemList<(Text, Value)>,
+    pub(crate) items: ItemList<(Text, Value)>,
 }
 
 impl Pairs {
@@ -85,24 +85,12 @@ impl Pairs {
         None
     }
 
-    // Where `put` changes a pair, if it does.
-    fn find(&self, key: &str) -> Option<usize>
-        ensures { PutsAt (pairs self.now) key.now result }
-    {
-        for (i, pair) in self.items.as_slice().iter().enumerate() {
-            if pair.0.as_str() == key {
-                return Some(i);
-            }
-        }
-        None
-    }
-
     /// Gives the first pair with the key this value, or adds a pair at the end.
     pub fn put(&mut self, key: &str, value: Value) -> Result<(), AllocError>
         ensures ok { OnOk result (pairs self.new ≡ put (pairs self.old) key.now value) }
         ensures err { OnErr result (self.new ≡ self.old) }
     {
-        match self.find(key) {
+        match find(self.as_slice(), key) {
             Some(at) => {
                 drop(mem::replace(&mut self.items.at_mut(at).1, value));
                 Ok(())
@@ -135,4 +123,16 @@ pub(crate) fn has_key(list: &[(Text, Value)], key: &str) -> bool
         }
     }
     false
+}
+
+// Where `put` changes a pair, if it does.
+pub(crate) fn find(list: &[(Text, Value)], key: &str) -> Option<usize>
+    ensures { PutsAt list.now key.now result }
+{
+    for (i, pair) in list.iter().enumerate() {
+        if pair.0.as_str() == key {
+            return Some(i);
+        }
+    }
+    None
 }

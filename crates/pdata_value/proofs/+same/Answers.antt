@@ -85,15 +85,15 @@ same::are_same_at_keys-loop-i-preserved t c =
     let within : i < length ps = omega arith in
     elim c.else-not-has_key.branch [
       | same::are_same_at_keys-else-not-has_key-via-then-not-has_key+else-not-is_same_as_found w ↦
-      let first : has_key (take i ps) p.0 ≡ false =
-      subst (λ (k : List ℕ). has_key (take i ps) k ≡ false) c.as_str-key.ensures.value (sym w.if-not-has_key.ensures) in
-      let found : same_answer (Some p.1) (get qs c.as_str-key.result.now) ≡ true =
-      subst (λ (f : Option Value). same_answer (Some p.1) f ≡ true) w.get.ensures (sym w.if-not-is_same_as_found.ensures) in
-      let agrees : same_answer (Some p.1) (get qs p.0) ≡ true =
-      subst (λ (k : List ℕ). same_answer (Some p.1) (get qs k) ≡ true) c.as_str-key.ensures.value found in
-      one_more ps qs i p within c.index-pairs-i.is c.loop-i.invariant (found_first ps qs i p within c.index-pairs-i.is first ∙ agrees)
+          let first : has_key (take i ps) p.0 ≡ false =
+          subst (λ (k : List ℕ). has_key (take i ps) k ≡ false) c.as_str-key.ensures.value (sym w.if-not-has_key.ensures) in
+          let found : same_answer (Some p.1) (get qs c.as_str-key.result.now) ≡ true =
+          subst (λ (f : Option Value). same_answer (Some p.1) f ≡ true) w.get.ensures (sym w.if-not-is_same_as_found.ensures) in
+          let agrees : same_answer (Some p.1) (get qs p.0) ≡ true =
+          subst (λ (k : List ℕ). same_answer (Some p.1) (get qs k) ≡ true) c.as_str-key.ensures.value found in
+          one_more ps qs i p within c.index-pairs-i.is c.loop-i.invariant (found_first ps qs i p within c.index-pairs-i.is first ∙ agrees)
       | same::are_same_at_keys-else-not-has_key-via-else-not-has_key w ↦
-      let before : has_key (take i ps) p.0 ≡ true =
-      subst (λ (k : List ℕ). has_key (take i ps) k ≡ true) c.as_str-key.ensures.value (sym w.if-not-has_key.ensures) in
-      one_more ps qs i p within c.index-pairs-i.is c.loop-i.invariant (known_alike (take i ps) ps qs p.0 c.loop-i.invariant before)
+          let before : has_key (take i ps) p.0 ≡ true =
+          subst (λ (k : List ℕ). has_key (take i ps) k ≡ true) c.as_str-key.ensures.value (sym w.if-not-has_key.ensures) in
+          one_more ps qs i p within c.index-pairs-i.is c.loop-i.invariant (known_alike (take i ps) ps qs p.0 c.loop-i.invariant before)
     ]
