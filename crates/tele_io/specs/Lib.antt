@@ -2,3 +2,5 @@
 pub mod Calls
 pub mod Mark
 pub mod Reading
+-- What disks and sinks in memory know.
+pub mod Memory

@@ -1,0 +1,230 @@
+//! A disk in memory.
+
+ghost use Rattle.std.specs.Prelude.{◌≡◌, ◌≤◌, ◌↔◌, ◌⊎◌, [], Some, None, length, option_map, IsNone, IfSome, IsErr, IfOk, IsTrue, IsFalse, OnOk, OnErr};
+ghost use Rattle.std.specs.List.{position};
+ghost use Rattle.std.specs.Str.{bytes_eq};
+ghost use Rattle.contract_words.specs.Causes.{HasCause};
+ghost use Rattle.contract_words.specs.Held.{SameHeld, Appended};
+ghost use Rattle.tele_io.specs.Calls.{PutsBytes};
+ghost use Rattle.tele_io.specs.Memory.{empty_memory, file_of, held_of, holding, grown, known, unknown, planned, called, next_fails, with_plan, OtherFiles, SameCounts};
+
+use crate::disk::{Disk, DiskFault};
+use crate::memory::file::{DiskOp, MemFile};
+use std::alloc::{AllocError, Global};
+use std::marker::Model;
+
+/// A disk that tells what it holds, and fails where it was told to or wants memory.
+#[derive(Drop)]
+pub struct MemDisk {
+    files: Vec<MemFile>,
+    read_faults: u64,
+    write_faults: u64,
+}
+
+impl Model for MemDisk {
+    ghost use Rattle.tele_io.specs.Memory.{Memory};
+
+    ghost Value = { Memory };
+
+    ghost view = { λ d. record { files = d.files.items; read_faults = d.read_faults; write_faults = d.write_faults } };
+}
+
+fn find(files: &[MemFile], name: &str) -> Option<usize>
+    ensures { result ≡ position (λ f. bytes_eq f.name name.now) files.now }
+{
+    files.iter().position(|file| file.is_named(name))
+}
+
+impl MemDisk {
+    /// A disk without names.
+    pub fn new(alloc: Global) -> MemDisk
+        ensures { result ≡ empty_memory }
+    {
+        MemDisk {
+            files: Vec::new(alloc),
+            read_faults: 0,
+            write_faults: 0,
+        }
+    }
+
+    /// Lets the name hold the bytes.
+    pub fn put(&mut self, name: &str, bytes: &[u8]) -> Result<(), AllocError>
+        ensures ok { OnOk result (file_of self.new.files name.now ≡ Some (holding bytes.now (known name.now (file_of self.old.files name.now)))) }
+        ensures err { OnErr result (self.new ≡ self.old) }
+        ensures others { OtherFiles name.now self.old.files self.new.files }
+        ensures counts { SameCounts self.old self.new }
+    {
+        let alloc = *self.files.allocator();
+        let bytes = bytes.to_vec(alloc)?;
+        match find(self.files.as_slice(), name) {
+            Some(i) => self.files[i].put(bytes),
+            None => {
+                let mut file = MemFile::new(alloc, name)?;
+                file.put(bytes);
+                self.files.push(file)?;
+            }
+        }
+        Ok(())
+    }
+
+    /// Lets the nth call of that kind on the name fail, counted from 1 since the name was first put, created or named
+    /// here, with the create that made it.
+    pub fn fail(&mut self, op: DiskOp, name: &str, nth: u64) -> Result<(), AllocError>
+        ensures ok { OnOk result (file_of self.new.files name.now ≡ Some (with_plan op (planned nth) (known name.now (file_of self.old.files name.now)))) }
+        ensures err { OnErr result (self.new ≡ self.old) }
+        ensures others { OtherFiles name.now self.old.files self.new.files }
+        ensures counts { SameCounts self.old self.new }
+    {
+        match find(self.files.as_slice(), name) {
+            Some(i) => self.files[i].fail(op, nth)?,
+            None => {
+                let mut file = MemFile::new(*self.files.allocator(), name)?;
+                file.fail(op, nth)?;
+                self.files.push(file)?;
+            }
+        }
+        Ok(())
+    }
+
+    /// The bytes under the name; None where it isn't there.
+    pub fn get(&self, name: &str) -> Option<&[u8]>
+        ensures { option_map (λ b. b.now) result ≡ held_of self.now.files name.now }
+    {
+        match find(self.files.as_slice(), name) {
+            Some(i) => self.files[i].bytes(),
+            None => None,
+        }
+    }
+}
+
+// Reads from that place on; nothing where the call fails or the name isn't there.
+fn read_file(files: &mut Vec<MemFile>, name: &str, at: u64, room: &mut [u8]) -> Option<usize>
+    ensures count { IfSome result (λ n. n ≤ length room.old) }
+    ensures bytes { IfSome result (PutsBytes (held_of files.old.items name.now) at room.old room.new) }
+    ensures none { IsNone result ↔ (IsTrue (next_fails DiskOp.Read (file_of files.old.items name.now)) ⊎ (held_of files.old.items name.now ≡ None)) }
+    ensures counted { file_of files.new.items name.now ≡ option_map (with_plan DiskOp.Read called) (file_of files.old.items name.now) }
+    ensures others { OtherFiles name.now files.old.items files.new.items }
+{
+    match find(files.as_slice(), name) {
+        Some(i) => files[i].read(at, room),
+        None => None,
+    }
+}
+
+// Adds the whole piece, and tells whether the call went well.
+fn append_file(files: &mut Vec<MemFile>, name: &str, piece: &[u8]) -> bool
+    ensures planned { IsTrue (next_fails DiskOp.Append (file_of files.old.items name.now)) → IsFalse result }
+    ensures absent { held_of files.old.items name.now ≡ None → IsFalse result }
+    ensures added { IsTrue result → file_of files.new.items name.now ≡ option_map (λ f. grown piece.now (with_plan DiskOp.Append called f)) (file_of files.old.items name.now) }
+    ensures counted { IsFalse result → file_of files.new.items name.now ≡ option_map (with_plan DiskOp.Append called) (file_of files.old.items name.now) }
+    ensures others { OtherFiles name.now files.old.items files.new.items }
+{
+    match find(files.as_slice(), name) {
+        Some(i) => files[i].append(piece),
+        None => false,
+    }
+}
+
+// Adds a file without bytes under a new name, and tells whether there was memory.
+fn add_file(files: &mut Vec<MemFile>, name: &str) -> Result<(), AllocError>
+    requires { file_of files.old.items name.now ≡ None }
+    ensures ok { OnOk result (file_of files.new.items name.now ≡ Some (holding [] (with_plan DiskOp.Create called (unknown name.now)))) }
+    ensures err { OnErr result (files.new.items ≡ files.old.items) }
+    ensures others { OtherFiles name.now files.old.items files.new.items }
+{
+    let mut file = MemFile::new(*files.allocator(), name)?;
+    file.create();
+    files.push(file)?;
+    Ok(())
+}
+
+// Lets the name hold no bytes, and tells whether the call went well.
+fn create_file(files: &mut Vec<MemFile>, name: &str) -> bool
+    ensures planned { IsTrue (next_fails DiskOp.Create (file_of files.old.items name.now)) → IsFalse result }
+    ensures room { IsFalse result → IsTrue (next_fails DiskOp.Create (file_of files.old.items name.now)) ⊎ (file_of files.old.items name.now ≡ None) }
+    ensures created { IsTrue result → file_of files.new.items name.now ≡ Some (holding [] (with_plan DiskOp.Create called (known name.now (file_of files.old.items name.now)))) }
+    ensures counted { IsFalse result → file_of files.new.items name.now ≡ option_map (with_plan DiskOp.Create called) (file_of files.old.items name.now) }
+    ensures others { OtherFiles name.now files.old.items files.new.items }
+{
+    match find(files.as_slice(), name) {
+        Some(i) => files[i].create(),
+        None => match add_file(files, name) {
+            Ok(()) => true,
+            Err(_) => false,
+        },
+    }
+}
+
+impl Disk for MemDisk {
+    ghost use Rattle.tele_io.specs.Memory.{held_of};
+
+    ghost tells = { λ _. Unit {0} };
+
+    ghost held = { λ d. held_of d.files };
+
+    ghost read_faults = { λ d. d.read_faults };
+
+    ghost write_faults = { λ d. d.write_faults };
+
+    /// Takes no memory.
+    fn read(&mut self, name: &str, at: u64, room: &mut [u8]) -> Result<usize, DiskFault>
+        ensures count { IfOk result (λ n. n ≤ length room.old) }
+        ensures bytes { IfOk result (PutsBytes (held_of self.old.files name.now) at room.old room.new) }
+        // When it fails, and what counts the call.
+        ensures fails { IsErr result ↔ (IsTrue (next_fails DiskOp.Read (file_of self.old.files name.now)) ⊎ (held_of self.old.files name.now ≡ None)) }
+        ensures counted { file_of self.new.files name.now ≡ option_map (with_plan DiskOp.Read called) (file_of self.old.files name.now) }
+        ensures cause { HasCause self.old.read_faults self.new.read_faults result }
+        // What stays.
+        ensures unchanged { SameHeld (held_of self.old.files) (held_of self.new.files) }
+        ensures others { OtherFiles name.now self.old.files self.new.files }
+        ensures other_count { self.new.write_faults ≡ self.old.write_faults }
+    {
+        match read_file(&mut self.files, name, at, room) {
+            Some(count) => Ok(count),
+            None => {
+                self.read_faults = self.read_faults.saturating_add(1);
+                Err(DiskFault)
+            }
+        }
+    }
+
+    fn create(&mut self, name: &str) -> Result<(), DiskFault>
+        ensures ok { OnOk result (file_of self.new.files name.now ≡ Some (holding [] (with_plan DiskOp.Create called (known name.now (file_of self.old.files name.now))))) }
+        ensures err { OnErr result (file_of self.new.files name.now ≡ option_map (with_plan DiskOp.Create called) (file_of self.old.files name.now)) }
+        // When it fails: memory is wanted for a new name alone.
+        ensures planned { IsTrue (next_fails DiskOp.Create (file_of self.old.files name.now)) → IsErr result }
+        ensures room { IsErr result → IsTrue (next_fails DiskOp.Create (file_of self.old.files name.now)) ⊎ (file_of self.old.files name.now ≡ None) }
+        ensures cause { HasCause self.old.write_faults self.new.write_faults result }
+        // What stays.
+        ensures others { OtherFiles name.now self.old.files self.new.files }
+        ensures other_count { self.new.read_faults ≡ self.old.read_faults }
+    {
+        if create_file(&mut self.files, name) {
+            return Ok(());
+        }
+        self.write_faults = self.write_faults.saturating_add(1);
+        Err(DiskFault)
+    }
+
+    /// Takes the whole piece.
+    fn append(&mut self, name: &str, piece: &[u8]) -> Result<usize, DiskFault>
+        ensures whole { IfOk result (λ n. n ≡ length piece.now) }
+        ensures added { IfOk result (λ n. Appended name.now piece.now n (held_of self.old.files) (held_of self.new.files)) }
+        ensures ok { OnOk result (file_of self.new.files name.now ≡ option_map (λ f. grown piece.now (with_plan DiskOp.Append called f)) (file_of self.old.files name.now)) }
+        ensures err { OnErr result (file_of self.new.files name.now ≡ option_map (with_plan DiskOp.Append called) (file_of self.old.files name.now)) }
+        // When it fails, want of memory aside.
+        ensures planned { IsTrue (next_fails DiskOp.Append (file_of self.old.files name.now)) → IsErr result }
+        ensures absent { held_of self.old.files name.now ≡ None → IsErr result }
+        ensures cause { HasCause self.old.write_faults self.new.write_faults result }
+        // What stays.
+        ensures unchanged { OnErr result (SameHeld (held_of self.old.files) (held_of self.new.files)) }
+        ensures others { OtherFiles name.now self.old.files self.new.files }
+        ensures other_count { self.new.read_faults ≡ self.old.read_faults }
+    {
+        if append_file(&mut self.files, name, piece) {
+            return Ok(piece.len());
+        }
+        self.write_faults = self.write_faults.saturating_add(1);
+        Err(DiskFault)
+    }
+}
