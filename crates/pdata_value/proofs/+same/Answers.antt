@@ -1,0 +1,99 @@
+use Rattle.std.proofs.Common.{◌≡◌, ◌∙◌, ℕ, ◌<◌, true, false, List, length, take, Option, Some, sym, ap, subst, arith}
+use Rattle.pdata_value.specs.Value.{pairs}
+use Rattle.pdata_value.specs.Pairs.{get, has_key}
+use Rattle.pdata_value.specs.Places.{keys_within}
+use Rattle.pdata_value.specs.Same.{same, same_answer, same_keys, same_pairs}
+use Rattle.pdata_value.specs.declared.value.Value.{Value}
+use Rattle.pdata_value.specs.declared.value.Value.TheVariants as variants
+use Rattle.pdata_value.proofs.Sames.{same-Empty-other, same-Text-other, same-Truth-other, same-Int-other, same-Double-other, same-Bytes-other, same-List-other, same-Map-other, same-Map-Map}
+use Rattle.pdata_value.proofs.SameSteps.{lengths_differ, known_alike, one_more, one_differs, found_first, same_pairs-within}
+use Rattle.pdata_value.proofs.+same.Goals as goal
+use Rattle.pdata_value.proofs.+same.Goals.{same::are_same_at_keys-else-not-has_key-via-then-not-has_key+else-not-is_same_as_found, same::are_same_at_keys-else-not-has_key-via-else-not-has_key}
+
+pub value::Value::same-returns-in_default : goal.value::Value::same-returns-in_default
+value::Value::same-returns-in_default t c =
+    sym (ap (λ (v : Value). same v c.args.other.now) c.in-Empty.is ∙ same-Empty-other c.args.other.now c.in_default.not-Empty)
+
+pub value::Value::same-returns-in_default-other : goal.value::Value::same-returns-in_default-other
+value::Value::same-returns-in_default-other t c =
+    sym (ap (λ (v : Value). same v c.args.other.now) c.in-Text.is ∙ same-Text-other c.in-Text.text c.args.other.now c.in_default-other.not-Text)
+
+pub value::Value::same-returns-in_default-other-2 : goal.value::Value::same-returns-in_default-other-2
+value::Value::same-returns-in_default-other-2 t c =
+    sym (ap (λ (v : Value). same v c.args.other.now) c.in-Truth.is ∙ same-Truth-other c.in-Truth.truth c.args.other.now c.in_default-other-2.not-Truth)
+
+pub value::Value::same-returns-in_default-other-3 : goal.value::Value::same-returns-in_default-other-3
+value::Value::same-returns-in_default-other-3 t c =
+    sym (ap (λ (v : Value). same v c.args.other.now) c.in-Int.is ∙ same-Int-other c.in-Int.int c.args.other.now c.in_default-other-3.not-Int)
+
+pub value::Value::same-returns-in_default-other-4 : goal.value::Value::same-returns-in_default-other-4
+value::Value::same-returns-in_default-other-4 t c =
+    sym (ap (λ (v : Value). same v c.args.other.now) c.in-Double.is ∙ same-Double-other c.in-Double.spelling c.args.other.now c.in_default-other-4.not-Double)
+
+pub value::Value::same-returns-in_default-other-5 : goal.value::Value::same-returns-in_default-other-5
+value::Value::same-returns-in_default-other-5 t c =
+    sym (ap (λ (v : Value). same v c.args.other.now) c.in-Bytes.is ∙ same-Bytes-other c.in-Bytes.bytes c.args.other.now c.in_default-other-5.not-Bytes)
+
+pub value::Value::same-returns-in_default-other-6 : goal.value::Value::same-returns-in_default-other-6
+value::Value::same-returns-in_default-other-6 t c =
+    sym (ap (λ (v : Value). same v c.args.other.now) c.in-List.is ∙ same-List-other c.in-List.values c.args.other.now c.in_default-other-6.not-List)
+
+pub value::Value::same-returns-in_default-other-7 : goal.value::Value::same-returns-in_default-other-7
+value::Value::same-returns-in_default-other-7 t c =
+    sym (ap (λ (v : Value). same v c.args.other.now) c.in-Map.is ∙ same-Map-other c.in-Map.pairs c.args.other.now c.in_default-other-7.not-Map)
+
+pub value::Value::same-returns-then-are_same_at_keys : goal.value::Value::same-returns-then-are_same_at_keys
+value::Value::same-returns-then-are_same_at_keys t c =
+    let ps = pairs c.in-Map.pairs in
+    let qs = pairs c.in-Map-other.others in
+    let alike : same_keys ps ps qs ≡ true =
+    subst (λ (xs : List (List ℕ × Value)). same_keys xs xs qs ≡ true) c.as_slice-in-Map-other.ensures (sym c.if-are_same_at_keys.ensures) in
+    let found : c.has_keys.result ≡ keys_within qs ps = c.has_keys.ensures
+    ∙ ap (λ (xs : List (List ℕ × Value)). keys_within xs c.as_slice-then-are_same_at_keys.result.now) c.as_slice-then-are_same_at_keys-2.ensures
+    ∙ ap (λ (xs : List (List ℕ × Value)). keys_within qs xs) c.as_slice-then-are_same_at_keys.ensures in
+    let maps : same c.args.self.now c.args.other.now ≡ same_pairs ps qs = ap (λ (v : Value). same v c.args.other.now) c.in-Map.is
+    ∙ ap (λ (v : Value). same (variants.Map c.in-Map.pairs) v) c.in-Map-other.is
+    ∙ same-Map-Map c.in-Map.pairs c.in-Map-other.others in
+    found ∙ sym (maps ∙ same_pairs-within ps qs alike)
+
+pub same::are_same-returns-then-values-others : goal.same::are_same-returns-then-values-others
+same::are_same-returns-then-values-others t c = sym (lengths_differ c.args.values.now c.args.others.now c.if-values-others.true)
+
+-- the pair is the first with its key, and what the other map has there differs
+pub same::are_same_at_keys-returns-then-not-is_same_as_found : goal.same::are_same_at_keys-returns-then-not-is_same_as_found
+same::are_same_at_keys-returns-then-not-is_same_as_found t c =
+    let ps = c.args.pairs.now in
+    let qs = pairs c.args.others.now in
+    let i = c.loop-i.i in
+    let p = c.index-pairs-i.result in
+    let within : i < length ps = omega arith in
+    let first : has_key (take i ps) p.0 ≡ false =
+    subst (λ (k : List ℕ). has_key (take i ps) k ≡ false) c.as_str-key.ensures.value (sym c.if-not-has_key.ensures) in
+    let found : same_answer (Some p.1) (get qs c.as_str-key.result.now) ≡ false =
+    subst (λ (f : Option Value). same_answer (Some p.1) f ≡ false) c.get.ensures (sym c.if-not-is_same_as_found.ensures) in
+    let differs : same_answer (Some p.1) (get qs p.0) ≡ false =
+    subst (λ (k : List ℕ). same_answer (Some p.1) (get qs k) ≡ false) c.as_str-key.ensures.value found in
+    sym (one_differs ps qs i p within c.index-pairs-i.is (found_first ps qs i p within c.index-pairs-i.is first ∙ differs))
+
+-- the pair was compared now, or one with its key before
+pub same::are_same_at_keys-loop-i-preserved : goal.same::are_same_at_keys-loop-i-preserved
+same::are_same_at_keys-loop-i-preserved t c =
+    let ps = c.args.pairs.now in
+    let qs = pairs c.args.others.now in
+    let i = c.loop-i.i in
+    let p = c.index-pairs-i.result in
+    let within : i < length ps = omega arith in
+    elim c.else-not-has_key.branch [
+      | same::are_same_at_keys-else-not-has_key-via-then-not-has_key+else-not-is_same_as_found w ↦
+          let first : has_key (take i ps) p.0 ≡ false =
+          subst (λ (k : List ℕ). has_key (take i ps) k ≡ false) c.as_str-key.ensures.value (sym w.if-not-has_key.ensures) in
+          let found : same_answer (Some p.1) (get qs c.as_str-key.result.now) ≡ true =
+          subst (λ (f : Option Value). same_answer (Some p.1) f ≡ true) w.get.ensures (sym w.if-not-is_same_as_found.ensures) in
+          let agrees : same_answer (Some p.1) (get qs p.0) ≡ true =
+          subst (λ (k : List ℕ). same_answer (Some p.1) (get qs k) ≡ true) c.as_str-key.ensures.value found in
+          one_more ps qs i p within c.index-pairs-i.is c.loop-i.invariant (found_first ps qs i p within c.index-pairs-i.is first ∙ agrees)
+      | same::are_same_at_keys-else-not-has_key-via-else-not-has_key w ↦
+          let before : has_key (take i ps) p.0 ≡ true =
+          subst (λ (k : List ℕ). has_key (take i ps) k ≡ true) c.as_str-key.ensures.value (sym w.if-not-has_key.ensures) in
+          one_more ps qs i p within c.index-pairs-i.is c.loop-i.invariant (known_alike (take i ps) ps qs p.0 c.loop-i.invariant before)
+    ]
