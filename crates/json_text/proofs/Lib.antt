@@ -1,0 +1,4 @@
+pub mod Scans
+pub mod Numerals
+pub mod Turns
+pub mod Values
