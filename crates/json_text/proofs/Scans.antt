@@ -74,7 +74,7 @@ stop_step : (kind : ℕ → Bool) (x : ℕ) (xs : List ℕ) → (prefix_len kind
 stop_step kind x xs below true is h = below (omega arith)
 stop_step kind x xs below false is h = is
 
-stopped : (kind : ℕ → Bool) (bytes : List ℕ) → prefix_len kind bytes < length bytes → kind (get_or bytes (prefix_len kind bytes) 0) ≡ false
+pub stopped : (kind : ℕ → Bool) (bytes : List ℕ) → prefix_len kind bytes < length bytes → kind (get_or bytes (prefix_len kind bytes) 0) ≡ false
 stopped kind [] within = absurd (omega arith)
 stopped kind (x ∷ xs) within =
     let one_more : 1 + prefix_len kind xs ≡ suc (prefix_len kind xs) = omega arith in

@@ -9,7 +9,9 @@ mod number;
 mod reader;
 mod scan;
 mod text;
+mod writer;
 
 pub use error::JsonFault;
 pub use json::{Items, Json, JsonKind, Members};
 pub use reader::read;
+pub use writer::{push_json, push_text, write};
