@@ -1,0 +1,5 @@
+pub mod Digits
+pub mod Closing
+pub mod Steps
+pub mod Pieces
+pub mod Loop
