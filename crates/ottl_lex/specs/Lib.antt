@@ -3,5 +3,7 @@ pub mod Tokens
 pub mod Quoted
 pub mod Numbers
 pub mod Names
+-- The token table, apart from how tokens are read.
+pub mod Table
 -- Inside the crate.
 pub mod Escapes

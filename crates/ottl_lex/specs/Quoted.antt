@@ -36,12 +36,18 @@ closing taken (b ∷ rest) =
     (cond taken (one_more (closing false rest))
     (cond (b == 34) (Some 0) (one_more (closing (b == 92) rest))))
 
--- the byte that a backslash and this letter stand for: a, b, f, n, r, t, v, the backslash and the quote
+-- the letters of escapes, each with the byte that a backslash and it stand for
+abbrev pub letters : List (ℕ × ℕ)
+letters =
+    (97, 7) ∷ (98, 8) ∷ (102, 12) ∷ (110, 10) ∷ (114, 13) ∷ (116, 9) ∷ (118, 11) ∷ (92, 92) ∷ (34, 34) ∷ []
+
+-- the byte beside a letter
+abbrev pub byte_beside : List (ℕ × ℕ) → ℕ → Option ℕ
+byte_beside [] c = None
+byte_beside (row ∷ rows) c = cond (c == row.0) (Some row.1) (byte_beside rows c)
+
 abbrev pub letter_escape : ℕ → Option ℕ
-letter_escape c =
-    cond (c == 97) (Some 7) (cond (c == 98) (Some 8) (cond (c == 102) (Some 12) (cond (c == 110) (Some 10)
-    (cond (c == 114) (Some 13) (cond (c == 116) (Some 9) (cond (c == 118) (Some 11) (cond (c == 92) (Some 92)
-    (cond (c == 34) (Some 34) None))))))))
+letter_escape c = byte_beside letters c
 
 -- the bytes that an escape stands for, and how many bytes it takes behind its backslash
 abbrev pub Escape : Type 0

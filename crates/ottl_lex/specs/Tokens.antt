@@ -26,11 +26,23 @@ in_upper b = is_ascii_uppercase b || in_lower b
 abbrev pub in_word : ℕ → Bool
 in_word b = is_ascii_lowercase b || is_ascii_uppercase b || b == 95
 
--- one of the words `where and or not true false nil`
+-- a byte is one of these
+abbrev pub is_one_of : List ℕ → ℕ → Bool
+is_one_of [] b = false
+is_one_of (x ∷ xs) b = b == x || is_one_of xs b
+
+-- a name is one of these
+abbrev pub is_name_of : List (List ℕ) → List ℕ → Bool
+is_name_of [] name = false
+is_name_of (x ∷ xs) name = bytes_eq name x || is_name_of xs name
+
+-- the keywords
+abbrev pub keywords : List (List ℕ)
+keywords =
+    codes "where" ∷ codes "and" ∷ codes "or" ∷ codes "not" ∷ codes "true" ∷ codes "false" ∷ codes "nil" ∷ []
+
 abbrev pub is_keyword : List ℕ → Bool
-is_keyword name =
-    bytes_eq name (codes "where") || bytes_eq name (codes "and") || bytes_eq name (codes "or") || bytes_eq name (codes "not")
-    || bytes_eq name (codes "true") || bytes_eq name (codes "false") || bytes_eq name (codes "nil")
+is_keyword name = is_name_of keywords name
 
 -- a token of so many bytes
 abbrev pub token : TokenKind → ℕ → ℕ → Token
@@ -77,13 +89,11 @@ quoted_at at (Some count) rest = contents at (take count rest) >>= λ _. Ok (tok
 
 -- a byte is a sign
 abbrev pub is_sign : ℕ → Bool
-is_sign b =
-    b == 40 || b == 41 || b == 91 || b == 93 || b == 123 || b == 125 || b == 44 || b == 46 || b == 58 || b == 60 || b == 62
-    || b == 43 || b == 45 || b == 42 || b == 47
+is_sign b = is_one_of (codes "()[]{},.:<>+-*/") b
 
--- a byte and a `=` are a sign: `== != <= >=`
+-- a byte and a `=` behind it are a sign
 abbrev pub before_equals : ℕ → Bool
-before_equals b = b == 61 || b == 33 || b == 60 || b == 62
+before_equals b = is_one_of (codes "=!<>") b
 
 -- the text begins with `=`
 abbrev pub equals_first : List ℕ → Bool

@@ -2,6 +2,7 @@
 #![tactic(auto)]
 
 mod fault;
+mod laws;
 mod lengths;
 mod lexer;
 mod numbers;
@@ -9,6 +10,7 @@ mod quoted;
 mod token;
 
 pub use fault::{SyntaxFault, SyntaxKind, SyntaxStop};
+pub use laws::tokens_are_longest;
 pub use lexer::{MAX_TEXT, lex};
 pub use numbers::{read_digits, read_literal};
 pub use quoted::read_text;
