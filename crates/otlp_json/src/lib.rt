@@ -1,0 +1,10 @@
+//! OTLP logs payloads in JSON: the payload that a line is, and the one written form of a payload.
+#![tactic(auto)]
+
+mod error;
+mod members;
+mod reading;
+
+pub use error::{PayloadFault, PayloadKind, PayloadStop};
+pub use reading::read_payload;
+

@@ -1,0 +1,245 @@
+//! Reads payloads.
+
+ghost use Rattle.std.specs.Prelude.{◌≡◌, ◌≤◌, length};
+ghost use Rattle.contract_words.specs.Gives.{Gives};
+ghost use Rattle.pdata_value.specs.Value.{pairs};
+ghost use Rattle.otlp_json.specs.Payload as spec;
+ghost use Rattle.otlp_json.specs.Payload.{kind_of, text_in, value_in, pair_in, pairs_in, body_in, record_in, attributes_in, scope_in, resource_in, batch_in, list_in, each, is_plain_line, payload};
+
+use crate::error::{NOT_BUILT, PayloadStop};
+use crate::members::{items_of, one_member, present, text_of, two_members};
+use item_list::ItemList;
+use json_text::{Items, Json, JsonFault, read};
+use pdata_tree::{Batch, LogRecord, Logs, ResourceNode, ResourceTree, Resources, ScopeNode, ScopeTree, Scopes};
+use pdata_value::{Pairs, Text, Value};
+use std::alloc::Global;
+
+/// Lists and objects of a payload nest at most so deep.
+const DEPTH: u32 = 300;
+
+/// At most so many brackets and braces open in a line.
+const OPENING: u32 = 300;
+
+#[tactic(auto, unfolding(crate::specs::Payload::value_in))]
+fn value_of(json: Json) -> Result<Value, PayloadStop>
+    ensures { Gives (λ value. value) kind_of result (value_in json) }
+{
+    let text = text_of(present(one_member(json, "stringValue")?)?)?;
+    Ok(Value::Text(text))
+}
+
+#[tactic(auto, unfolding(crate::specs::Payload::pair_in))]
+fn pair_of(json: Json) -> Result<(Text, Value), PayloadStop>
+    ensures { Gives (λ pair. pair) kind_of result (pair_in json) }
+{
+    let slots = two_members(json, "key", "value")?;
+    let key = text_of(present(slots.first)?)?;
+    let value = value_of(present(slots.second)?)?;
+    Ok((key, value))
+}
+
+fn each_pair(alloc: Global, items: Items) -> Result<ItemList<(Text, Value)>, PayloadStop>
+    ensures { Gives (λ list. list) kind_of result (each pair_in items) }
+{
+    let mut list = ItemList::new(alloc);
+    for json in items.into_vec() {
+        match pair_of(json) {
+            Ok(pair) => list.push(pair)?,
+            Err(stop) => return Err(stop),
+        }
+    }
+    Ok(list)
+}
+
+#[tactic(auto, unfolding(crate::specs::Payload::pairs_in))]
+fn pairs_of(alloc: Global, slot: Option<Json>) -> Result<Pairs, PayloadStop>
+    ensures { Gives (λ pairs. pairs) kind_of result (pairs_in slot) }
+{
+    match slot {
+        Some(json) => {
+            let list = each_pair(alloc, items_of(json)?)?;
+            Ok(Pairs::from_list(list))
+        }
+        None => Ok(Pairs::new(alloc)),
+    }
+}
+
+fn body_of(slot: Option<Json>) -> Result<Value, PayloadStop>
+    ensures { Gives (λ value. value) kind_of result (body_in slot) }
+{
+    match slot {
+        Some(json) => value_of(json),
+        None => Ok(Value::Empty),
+    }
+}
+
+#[tactic(auto, unfolding(crate::specs::Payload::record_in))]
+fn record_of(alloc: Global, json: Json) -> Result<LogRecord, PayloadStop>
+    ensures { Gives (λ log. log) kind_of result (record_in json) }
+{
+    let slots = two_members(json, "body", "attributes")?;
+    let body = body_of(slots.first)?;
+    let attributes = pairs_of(alloc, slots.second)?;
+    Ok(LogRecord {
+        time: 0,
+        observed: 0,
+        severity: 0,
+        severity_text: Text::new(alloc),
+        body,
+        attributes,
+        dropped: 0,
+        flags: 0,
+        trace_id: [0; 16],
+        span_id: [0; 8],
+    })
+}
+
+fn each_record(alloc: Global, items: Items) -> Result<Logs, PayloadStop>
+    ensures { Gives (λ logs. logs) kind_of result (each record_in items) }
+{
+    let mut logs = ItemList::new(alloc);
+    for json in items.into_vec() {
+        match record_of(alloc, json) {
+            Ok(record) => logs.push(record)?,
+            Err(stop) => return Err(stop),
+        }
+    }
+    Ok(logs)
+}
+
+fn records_of(alloc: Global, slot: Option<Json>) -> Result<Logs, PayloadStop>
+    ensures { Gives (λ logs. logs) kind_of result (list_in record_in slot) }
+{
+    match slot {
+        Some(json) => each_record(alloc, items_of(json)?),
+        None => Ok(ItemList::new(alloc)),
+    }
+}
+
+fn attributes_of(alloc: Global, slot: Option<Json>) -> Result<Pairs, PayloadStop>
+    ensures { Gives (λ attributes. attributes) kind_of result (attributes_in slot) }
+{
+    match slot {
+        Some(json) => pairs_of(alloc, one_member(json, "attributes")?),
+        None => pairs_of(alloc, None),
+    }
+}
+
+#[tactic(auto, unfolding(crate::specs::Payload::scope_in))]
+fn scope_of(alloc: Global, json: Json) -> Result<ScopeTree, PayloadStop>
+    ensures { Gives (λ scope. scope) kind_of result (scope_in json) }
+{
+    let slots = two_members(json, "scope", "logRecords")?;
+    let attributes = attributes_of(alloc, slots.first)?;
+    let logs = records_of(alloc, slots.second)?;
+    let node = ScopeNode {
+        name: Text::new(alloc),
+        version: Text::new(alloc),
+        attributes,
+        dropped: 0,
+        schema_url: Text::new(alloc),
+    };
+    Ok(ScopeTree { node, logs })
+}
+
+fn each_scope(alloc: Global, items: Items) -> Result<Scopes, PayloadStop>
+    ensures { Gives (λ scopes. scopes) kind_of result (each scope_in items) }
+{
+    let mut scopes = ItemList::new(alloc);
+    for json in items.into_vec() {
+        match scope_of(alloc, json) {
+            Ok(scope) => scopes.push(scope)?,
+            Err(stop) => return Err(stop),
+        }
+    }
+    Ok(scopes)
+}
+
+fn scopes_of(alloc: Global, slot: Option<Json>) -> Result<Scopes, PayloadStop>
+    ensures { Gives (λ scopes. scopes) kind_of result (list_in scope_in slot) }
+{
+    match slot {
+        Some(json) => each_scope(alloc, items_of(json)?),
+        None => Ok(ItemList::new(alloc)),
+    }
+}
+
+#[tactic(auto, unfolding(crate::specs::Payload::resource_in))]
+fn resource_of(alloc: Global, json: Json) -> Result<ResourceTree, PayloadStop>
+    ensures { Gives (λ resource. resource) kind_of result (resource_in json) }
+{
+    let slots = two_members(json, "resource", "scopeLogs")?;
+    let attributes = attributes_of(alloc, slots.first)?;
+    let scopes = scopes_of(alloc, slots.second)?;
+    let node = ResourceNode {
+        attributes,
+        dropped: 0,
+        schema_url: Text::new(alloc),
+    };
+    Ok(ResourceTree { node, scopes })
+}
+
+fn each_resource(alloc: Global, items: Items) -> Result<Resources, PayloadStop>
+    ensures { Gives (λ resources. resources) kind_of result (each resource_in items) }
+{
+    let mut resources = ItemList::new(alloc);
+    for json in items.into_vec() {
+        match resource_of(alloc, json) {
+            Ok(resource) => resources.push(resource)?,
+            Err(stop) => return Err(stop),
+        }
+    }
+    Ok(resources)
+}
+
+fn resources_of(alloc: Global, slot: Option<Json>) -> Result<Resources, PayloadStop>
+    ensures { Gives (λ resources. resources) kind_of result (list_in resource_in slot) }
+{
+    match slot {
+        Some(json) => each_resource(alloc, items_of(json)?),
+        None => Ok(ItemList::new(alloc)),
+    }
+}
+
+#[tactic(auto, unfolding(crate::specs::Payload::batch_in))]
+fn batch_of(alloc: Global, json: Json) -> Result<Batch, PayloadStop>
+    ensures { Gives (λ batch. batch) kind_of result (batch_in json) }
+{
+    let resources = resources_of(alloc, one_member(json, "resourceLogs")?)?;
+    Ok(Batch { resources })
+}
+
+// Whether the line has no backslash, no byte from 128 up, and few enough bytes that open.
+fn is_plain(line: &[u8]) -> bool
+    requires { length line.now ≤ 16777216 }
+    ensures { result ≡ is_plain_line line.now }
+{
+    let mut opening = 0u32;
+    for byte in line {
+        if *byte == b'\\' || *byte >= 128 {
+            return false;
+        }
+        if *byte == b'[' || *byte == b'{' {
+            opening += 1;
+        }
+    }
+    opening <= OPENING
+}
+
+/// The payload that the line is.
+#[tactic(auto, unfolding(crate::specs::Payload::payload))]
+pub fn read_payload(alloc: Global, line: &[u8]) -> Result<Batch, PayloadStop>
+    requires { length line.now ≤ 16777216 }
+    ensures { Gives (λ batch. batch) kind_of result (payload line.now) }
+{
+    if !is_plain(line) {
+        return Err(NOT_BUILT);
+    }
+    match read(alloc, line, DEPTH) {
+        Ok(json) => batch_of(alloc, json),
+        Err(JsonFault::NoMemory) => Err(PayloadStop::NoMemory),
+        Err(JsonFault::BadUtf8(_)) => Err(NOT_BUILT),
+        Err(JsonFault::BadJson(_)) => Err(NOT_BUILT),
+        Err(JsonFault::TooDeep(_)) => Err(NOT_BUILT),
+    }
+}
