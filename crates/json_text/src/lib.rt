@@ -14,4 +14,4 @@ mod writer;
 pub use error::JsonFault;
 pub use json::{Items, Json, JsonKind, Members};
 pub use reader::read;
-pub use writer::{push_json, push_text, write};
+pub use writer::{push_comma_before, push_json, push_text, write};

@@ -64,8 +64,8 @@ fn push_truth(out: &mut Vec<u8>, truth: bool) -> Result<(), AllocError>
     }
 }
 
-// The comma before each element but the first.
-fn push_comma_before(out: &mut Vec<u8>, index: usize) -> Result<(), AllocError>
+/// Appends the comma before each element but the first.
+pub fn push_comma_before(out: &mut Vec<u8>, index: usize) -> Result<(), AllocError>
     ensures { OnOk result (out.new.items ≡ out.old.items ++ comma_before index) }
 {
     if index > 0 {

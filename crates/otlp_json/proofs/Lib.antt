@@ -1,2 +1,4 @@
 pub mod Layers
 pub mod Lists
+pub mod Values
+pub mod Pushes

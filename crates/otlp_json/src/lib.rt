@@ -4,7 +4,9 @@
 mod error;
 mod members;
 mod reading;
+mod writing;
 
 pub use error::{PayloadFault, PayloadKind, PayloadStop};
 pub use reading::read_payload;
+pub use writing::{push_line, write_line};
 
