@@ -1,5 +1,5 @@
 -- Disks and sinks in memory, of which planned calls fail.
-use Rattle.std.specs.Prelude.{◌≡◌, ◌≢◌, ◌+◌, ◌-◌, ◌^◌, ◌==◌, ◌&&◌, ◌++◌, ◌∷◌, [], ℕ, List, Bool, false, cond, min, nat_lt, Option, Some, None, option_map}
+use Rattle.std.specs.Prelude.{IsTrue, ◌≡◌, ◌≢◌, ◌+◌, ◌-◌, ◌^◌, ◌==◌, ◌&&◌, ◌++◌, ◌∷◌, [], ℕ, List, Bool, false, cond, min, nat_lt, Option, Some, None, option_map}
 use Rattle.std.specs.List.{list_any}
 use Rattle.std.specs.Str.{bytes_eq}
 use Rattle.contract_words.specs.Held.{Held}
@@ -96,6 +96,30 @@ held_of files name = bytes_of (file_of files name)
 -- of each other name the same is known
 abbrev pub OtherFiles : List ℕ → List File → List File → Type 0
 OtherFiles name old new = (other : List ℕ) → other ≢ name → file_of new other ≡ file_of old other
+
+-- the name then holds the bytes, and its calls are counted on
+abbrev pub Puts : List ℕ → List ℕ → List File → List File → Type 0
+Puts name bytes old new = file_of new name ≡ Some (holding bytes (known name (file_of old name)))
+
+-- one more call of that kind on the name fails
+abbrev pub Plans : DiskOp → List ℕ → ℕ → List File → List File → Type 0
+Plans op name nth old new = file_of new name ≡ Some (with_plan op (planned nth) (known name (file_of old name)))
+
+-- the next call of that kind on the name fails
+abbrev pub IsPlanned : DiskOp → List ℕ → List File → Type 0
+IsPlanned op name files = IsTrue (next_fails op (file_of files name))
+
+-- a call on the name was counted, if the name is known, and that is all that changed of it
+abbrev pub Counted : DiskOp → List ℕ → List File → List File → Type 0
+Counted op name old new = file_of new name ≡ option_map (with_plan op called) (file_of old name)
+
+-- the same, and the name then holds no bytes; it may have been unknown
+abbrev pub Creates : List ℕ → List File → List File → Type 0
+Creates name old new = file_of new name ≡ Some (holding [] (with_plan Create called (known name (file_of old name))))
+
+-- the same, and the name then holds the piece behind what it held
+abbrev pub Grows : List ℕ → List ℕ → List File → List File → Type 0
+Grows name piece old new = file_of new name ≡ option_map (λ f. grown piece (with_plan Append called f)) (file_of old name)
 
 -- a disk in memory
 pub record Memory : Type 0 where

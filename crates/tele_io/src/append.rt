@@ -24,8 +24,8 @@ pub fn append_all<D: Disk>(disk: &mut D, name: &str, bytes: &[u8]) -> Result<(),
     let mut rest = bytes;
     'pieces: while !rest.is_empty() {
         let count = disk.append(name, rest)?;
-        let (_, after) = rest.split_at(count);
-        rest = after;
+        let (_, left) = rest.split_at(count);
+        rest = left;
     }
     Ok(())
 }

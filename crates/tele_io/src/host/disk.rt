@@ -9,12 +9,11 @@ use std::fs::{self, OpenOptions};
 use std::io::{self, Seek, SeekFrom};
 use std::rt::Files;
 
-/// A file that is open, its name, and the place that is read next.
+/// A file that is open under a name.
 #[derive(Drop)]
 struct Opened<F> {
     name: String,
     file: F,
-    at: u64,
 }
 
 /// Keeps the file that was read last and the file that was written last open between calls.
@@ -23,6 +22,8 @@ pub struct HostDisk<R: Files> {
     files: R,
     alloc: Global,
     reading: Option<Opened<R::File>>,
+    // The place in it that is read next.
+    place: u64,
     writing: Option<Opened<R::File>>,
     read_faults: u64,
     write_faults: u64,
@@ -42,87 +43,76 @@ fn if_named<F: Drop>(opened: Option<Opened<F>>, name: &str) -> Option<Opened<F>>
     }
 }
 
+fn with_name<F: Drop>(alloc: Global, name: &str, file: F) -> io::Result<Opened<F>> {
+    let name = String::from_str(alloc, name)?;
+    Ok(Opened { name, file })
+}
+
 impl<R: Files> HostDisk<R> {
     pub fn new(alloc: Global, files: R) -> HostDisk<R> {
         HostDisk {
             files,
             alloc,
             reading: None,
+            place: 0,
             writing: None,
             read_faults: 0,
             write_faults: 0,
         }
     }
-}
 
-fn open_to_read<R: Files>(alloc: Global, files: &R, name: &str) -> io::Result<Opened<R::File>> {
-    Ok(Opened {
-        name: String::from_str(alloc, name)?,
-        file: fs::open(files, name)?,
-        at: 0,
-    })
-}
-
-fn open_to_append<R: Files>(alloc: Global, files: &R, name: &str) -> io::Result<Opened<R::File>> {
-    Ok(Opened {
-        name: String::from_str(alloc, name)?,
-        file: OpenOptions::new().append(true).open(files, name)?,
-        at: 0,
-    })
-}
-
-// A file that was there holds no bytes afterwards.
-fn create_anew<R: Files>(alloc: Global, files: &R, name: &str) -> io::Result<Opened<R::File>> {
-    Ok(Opened {
-        name: String::from_str(alloc, name)?,
-        file: fs::create(files, name)?,
-        at: 0,
-    })
-}
-
-// Reads on in the file that is open under this name, or in one that is opened here; after an error none is open.
-fn read_at<R: Files>(
-    alloc: Global,
-    files: &R,
-    reading: &mut Option<Opened<R::File>>,
-    name: &str,
-    at: u64,
-    room: &mut [u8],
-) -> io::Result<usize>
-    requires { at + length room.old < 2 ^ 64 }
-    ensures { IfOk result (λ n. n ≤ length room.old) }
-{
-    let mut opened = match if_named(reading.take(), name) {
-        Some(opened) => opened,
-        None => open_to_read(alloc, files, name)?,
-    };
-    if opened.at != at {
-        opened.file.seek(SeekFrom::Start(at))?;
+    // Reads on in the file that is open under this name, or in one that is opened here; after an error none is open.
+    fn read_at(&mut self, name: &str, at: u64, room: &mut [u8]) -> io::Result<usize>
+        requires { at + length room.old < 2 ^ 64 }
+        ensures count { IfOk result (λ n. n ≤ length room.old) }
+        ensures reads { self.new.read_faults ≡ self.old.read_faults }
+        ensures writes { self.new.write_faults ≡ self.old.write_faults }
+    {
+        let mut opened = match if_named(self.reading.take(), name) {
+            Some(opened) => opened,
+            None => {
+                self.place = 0;
+                with_name(self.alloc, name, fs::open(&self.files, name)?)?
+            }
+        };
+        if self.place != at {
+            opened.file.seek(SeekFrom::Start(at))?;
+        }
+        let count = read_some(&mut opened.file, room)?;
+        self.place = at + count as u64;
+        self.reading = Some(opened);
+        Ok(count)
     }
-    let count = read_some(&mut opened.file, room)?;
-    opened.at = at + count as u64;
-    *reading = Some(opened);
-    Ok(count)
-}
 
-// Writes on to the file that is open under this name, or to one that is opened here; after an error none is open.
-fn append_to<R: Files>(
-    alloc: Global,
-    files: &R,
-    writing: &mut Option<Opened<R::File>>,
-    name: &str,
-    piece: &[u8],
-) -> io::Result<usize>
-    ensures count { IfOk result (λ n. n ≤ length piece.now) }
-    ensures some { IfOk result (λ n. 0 < length piece.now → 0 < n) }
-{
-    let mut opened = match if_named(writing.take(), name) {
-        Some(opened) => opened,
-        None => open_to_append(alloc, files, name)?,
-    };
-    let count = write_some(&mut opened.file, piece)?;
-    *writing = Some(opened);
-    Ok(count)
+    // A file that was there holds no bytes afterwards. After an error none is open to be written.
+    fn create_anew(&mut self, name: &str) -> io::Result<()>
+        ensures reads { self.new.read_faults ≡ self.old.read_faults }
+        ensures writes { self.new.write_faults ≡ self.old.write_faults }
+    {
+        self.writing = None;
+        let file = fs::create(&self.files, name)?;
+        self.writing = Some(with_name(self.alloc, name, file)?);
+        Ok(())
+    }
+
+    // Writes on to the file that is open under this name, or to one that is opened here; after an error none is open.
+    fn append_to(&mut self, name: &str, piece: &[u8]) -> io::Result<usize>
+        ensures count { IfOk result (λ n. n ≤ length piece.now) }
+        ensures some { IfOk result (λ n. 0 < length piece.now → 0 < n) }
+        ensures reads { self.new.read_faults ≡ self.old.read_faults }
+        ensures writes { self.new.write_faults ≡ self.old.write_faults }
+    {
+        let mut opened = match if_named(self.writing.take(), name) {
+            Some(opened) => opened,
+            None => {
+                let file = OpenOptions::new().append(true).open(&self.files, name)?;
+                with_name(self.alloc, name, file)?
+            }
+        };
+        let count = write_some(&mut opened.file, piece)?;
+        self.writing = Some(opened);
+        Ok(count)
+    }
 }
 
 impl<R: Files> Disk for HostDisk<R> {
@@ -137,7 +127,7 @@ impl<R: Files> Disk for HostDisk<R> {
     ghost write_faults = { λ d. d.write_faults };
 
     fn read(&mut self, name: &str, at: u64, room: &mut [u8]) -> Result<usize, DiskFault> {
-        match read_at(self.alloc, &self.files, &mut self.reading, name, at, room) {
+        match self.read_at(name, at, room) {
             Ok(count) => Ok(count),
             Err(_) => {
                 self.read_faults = self.read_faults.saturating_add(1);
@@ -147,12 +137,8 @@ impl<R: Files> Disk for HostDisk<R> {
     }
 
     fn create(&mut self, name: &str) -> Result<(), DiskFault> {
-        self.writing = None;
-        match create_anew(self.alloc, &self.files, name) {
-            Ok(opened) => {
-                self.writing = Some(opened);
-                Ok(())
-            }
+        match self.create_anew(name) {
+            Ok(()) => Ok(()),
             Err(_) => {
                 self.write_faults = self.write_faults.saturating_add(1);
                 Err(DiskFault)
@@ -161,7 +147,7 @@ impl<R: Files> Disk for HostDisk<R> {
     }
 
     fn append(&mut self, name: &str, piece: &[u8]) -> Result<usize, DiskFault> {
-        match append_to(self.alloc, &self.files, &mut self.writing, name, piece) {
+        match self.append_to(name, piece) {
             Ok(count) => Ok(count),
             Err(_) => {
                 self.write_faults = self.write_faults.saturating_add(1);

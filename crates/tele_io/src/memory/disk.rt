@@ -6,7 +6,7 @@ ghost use Rattle.std.specs.Str.{bytes_eq};
 ghost use Rattle.contract_words.specs.Causes.{HasCause};
 ghost use Rattle.contract_words.specs.Held.{SameHeld, Appended};
 ghost use Rattle.tele_io.specs.Calls.{PutsBytes};
-ghost use Rattle.tele_io.specs.Memory.{empty_memory, file_of, held_of, holding, grown, known, unknown, planned, called, next_fails, with_plan, OtherFiles, SameCounts};
+ghost use Rattle.tele_io.specs.Memory.{empty_memory, file_of, held_of, holding, unknown, called, with_plan, Puts, Plans, IsPlanned, Counted, Creates, Grows, OtherFiles, SameCounts};
 
 use crate::disk::{Disk, DiskFault};
 use crate::memory::file::{DiskOp, MemFile};
@@ -49,7 +49,7 @@ impl MemDisk {
 
     /// Lets the name hold the bytes.
     pub fn put(&mut self, name: &str, bytes: &[u8]) -> Result<(), AllocError>
-        ensures ok { OnOk result (file_of self.new.files name.now ≡ Some (holding bytes.now (known name.now (file_of self.old.files name.now)))) }
+        ensures ok { OnOk result (Puts name.now bytes.now self.old.files self.new.files) }
         ensures err { OnErr result (self.new ≡ self.old) }
         ensures others { OtherFiles name.now self.old.files self.new.files }
         ensures counts { SameCounts self.old self.new }
@@ -70,7 +70,7 @@ impl MemDisk {
     /// Lets the nth call of that kind on the name fail, counted from 1 since the name was first put, created or named
     /// here, with the create that made it.
     pub fn fail(&mut self, op: DiskOp, name: &str, nth: u64) -> Result<(), AllocError>
-        ensures ok { OnOk result (file_of self.new.files name.now ≡ Some (with_plan op (planned nth) (known name.now (file_of self.old.files name.now)))) }
+        ensures ok { OnOk result (Plans op name.now nth self.old.files self.new.files) }
         ensures err { OnErr result (self.new ≡ self.old) }
         ensures others { OtherFiles name.now self.old.files self.new.files }
         ensures counts { SameCounts self.old self.new }
@@ -101,8 +101,8 @@ impl MemDisk {
 fn read_file(files: &mut Vec<MemFile>, name: &str, at: u64, room: &mut [u8]) -> Option<usize>
     ensures count { IfSome result (λ n. n ≤ length room.old) }
     ensures bytes { IfSome result (PutsBytes (held_of files.old.items name.now) at room.old room.new) }
-    ensures none { IsNone result ↔ (IsTrue (next_fails DiskOp.Read (file_of files.old.items name.now)) ⊎ (held_of files.old.items name.now ≡ None)) }
-    ensures counted { file_of files.new.items name.now ≡ option_map (with_plan DiskOp.Read called) (file_of files.old.items name.now) }
+    ensures none { IsNone result ↔ (IsPlanned DiskOp.Read name.now files.old.items ⊎ (held_of files.old.items name.now ≡ None)) }
+    ensures counted { Counted DiskOp.Read name.now files.old.items files.new.items }
     ensures others { OtherFiles name.now files.old.items files.new.items }
 {
     match find(files.as_slice(), name) {
@@ -113,10 +113,10 @@ fn read_file(files: &mut Vec<MemFile>, name: &str, at: u64, room: &mut [u8]) -> 
 
 // Adds the whole piece, and tells whether the call went well.
 fn append_file(files: &mut Vec<MemFile>, name: &str, piece: &[u8]) -> bool
-    ensures planned { IsTrue (next_fails DiskOp.Append (file_of files.old.items name.now)) → IsFalse result }
+    ensures planned { IsPlanned DiskOp.Append name.now files.old.items → IsFalse result }
     ensures absent { held_of files.old.items name.now ≡ None → IsFalse result }
-    ensures added { IsTrue result → file_of files.new.items name.now ≡ option_map (λ f. grown piece.now (with_plan DiskOp.Append called f)) (file_of files.old.items name.now) }
-    ensures counted { IsFalse result → file_of files.new.items name.now ≡ option_map (with_plan DiskOp.Append called) (file_of files.old.items name.now) }
+    ensures added { IsTrue result → Grows name.now piece.now files.old.items files.new.items }
+    ensures counted { IsFalse result → Counted DiskOp.Append name.now files.old.items files.new.items }
     ensures others { OtherFiles name.now files.old.items files.new.items }
 {
     match find(files.as_slice(), name) {
@@ -140,10 +140,10 @@ fn add_file(files: &mut Vec<MemFile>, name: &str) -> Result<(), AllocError>
 
 // Lets the name hold no bytes, and tells whether the call went well.
 fn create_file(files: &mut Vec<MemFile>, name: &str) -> bool
-    ensures planned { IsTrue (next_fails DiskOp.Create (file_of files.old.items name.now)) → IsFalse result }
-    ensures room { IsFalse result → IsTrue (next_fails DiskOp.Create (file_of files.old.items name.now)) ⊎ (file_of files.old.items name.now ≡ None) }
-    ensures created { IsTrue result → file_of files.new.items name.now ≡ Some (holding [] (with_plan DiskOp.Create called (known name.now (file_of files.old.items name.now)))) }
-    ensures counted { IsFalse result → file_of files.new.items name.now ≡ option_map (with_plan DiskOp.Create called) (file_of files.old.items name.now) }
+    ensures planned { IsPlanned DiskOp.Create name.now files.old.items → IsFalse result }
+    ensures room { IsFalse result → IsPlanned DiskOp.Create name.now files.old.items ⊎ (file_of files.old.items name.now ≡ None) }
+    ensures created { IsTrue result → Creates name.now files.old.items files.new.items }
+    ensures counted { IsFalse result → Counted DiskOp.Create name.now files.old.items files.new.items }
     ensures others { OtherFiles name.now files.old.items files.new.items }
 {
     match find(files.as_slice(), name) {
@@ -171,8 +171,8 @@ impl Disk for MemDisk {
         ensures count { IfOk result (λ n. n ≤ length room.old) }
         ensures bytes { IfOk result (PutsBytes (held_of self.old.files name.now) at room.old room.new) }
         // When it fails, and what counts the call.
-        ensures fails { IsErr result ↔ (IsTrue (next_fails DiskOp.Read (file_of self.old.files name.now)) ⊎ (held_of self.old.files name.now ≡ None)) }
-        ensures counted { file_of self.new.files name.now ≡ option_map (with_plan DiskOp.Read called) (file_of self.old.files name.now) }
+        ensures fails { IsErr result ↔ (IsPlanned DiskOp.Read name.now self.old.files ⊎ (held_of self.old.files name.now ≡ None)) }
+        ensures counted { Counted DiskOp.Read name.now self.old.files self.new.files }
         ensures cause { HasCause self.old.read_faults self.new.read_faults result }
         // What stays.
         ensures unchanged { SameHeld (held_of self.old.files) (held_of self.new.files) }
@@ -189,11 +189,11 @@ impl Disk for MemDisk {
     }
 
     fn create(&mut self, name: &str) -> Result<(), DiskFault>
-        ensures ok { OnOk result (file_of self.new.files name.now ≡ Some (holding [] (with_plan DiskOp.Create called (known name.now (file_of self.old.files name.now))))) }
-        ensures err { OnErr result (file_of self.new.files name.now ≡ option_map (with_plan DiskOp.Create called) (file_of self.old.files name.now)) }
+        ensures ok { OnOk result (Creates name.now self.old.files self.new.files) }
+        ensures err { OnErr result (Counted DiskOp.Create name.now self.old.files self.new.files) }
         // When it fails: memory is wanted for a new name alone.
-        ensures planned { IsTrue (next_fails DiskOp.Create (file_of self.old.files name.now)) → IsErr result }
-        ensures room { IsErr result → IsTrue (next_fails DiskOp.Create (file_of self.old.files name.now)) ⊎ (file_of self.old.files name.now ≡ None) }
+        ensures planned { IsPlanned DiskOp.Create name.now self.old.files → IsErr result }
+        ensures room { IsErr result → IsPlanned DiskOp.Create name.now self.old.files ⊎ (file_of self.old.files name.now ≡ None) }
         ensures cause { HasCause self.old.write_faults self.new.write_faults result }
         // What stays.
         ensures others { OtherFiles name.now self.old.files self.new.files }
@@ -210,10 +210,10 @@ impl Disk for MemDisk {
     fn append(&mut self, name: &str, piece: &[u8]) -> Result<usize, DiskFault>
         ensures whole { IfOk result (λ n. n ≡ length piece.now) }
         ensures added { IfOk result (λ n. Appended name.now piece.now n (held_of self.old.files) (held_of self.new.files)) }
-        ensures ok { OnOk result (file_of self.new.files name.now ≡ option_map (λ f. grown piece.now (with_plan DiskOp.Append called f)) (file_of self.old.files name.now)) }
-        ensures err { OnErr result (file_of self.new.files name.now ≡ option_map (with_plan DiskOp.Append called) (file_of self.old.files name.now)) }
+        ensures ok { OnOk result (Grows name.now piece.now self.old.files self.new.files) }
+        ensures err { OnErr result (Counted DiskOp.Append name.now self.old.files self.new.files) }
         // When it fails, want of memory aside.
-        ensures planned { IsTrue (next_fails DiskOp.Append (file_of self.old.files name.now)) → IsErr result }
+        ensures planned { IsPlanned DiskOp.Append name.now self.old.files → IsErr result }
         ensures absent { held_of self.old.files name.now ≡ None → IsErr result }
         ensures cause { HasCause self.old.write_faults self.new.write_faults result }
         // What stays.
