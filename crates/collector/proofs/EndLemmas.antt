@@ -40,10 +40,13 @@ module _ (Disk Notes : Type 0) (input : Taken) (output : List ℕ) (old new : He
   after-some : (done rest : List (List ℕ)) → Stands Disk Notes input output new notes_old notes_new accepted refused done rest → Disk → Notes → AfterSome input output old new notes_old notes_new
   after-some done rest s told note_told =
       let is : done ≡ take (length done) (lines_in input) = sym (ap (take (length done)) (s.lines told) ∙ take_front done rest) in
-      inr (length done, record {
-        text = s.text told ∙ ap (λ (ls : List (List ℕ)). Some (pass_text ls)) is;
-        notes = s.notes note_told ∙ ap (λ (ls : List (List ℕ)). notes_old ++ pass_notes 1 ls) is;
-      })
+      inr (
+        length done,
+        record {
+          text = s.text told ∙ ap (λ (ls : List (List ℕ)). Some (pass_text ls)) is;
+          notes = s.notes note_told ∙ ap (λ (ls : List (List ℕ)). notes_old ++ pass_notes 1 ls) is;
+        },
+      )
 
   pub leaves-by-stop : (e : Stop) (out : List ℕ) → LinesEnd {T = Unit {0}} Disk Notes input output new notes_old notes_new accepted refused (Err e) → Disk → Notes
       → Leaves (status_of e) input output old new out out notes_old notes_new

@@ -91,12 +91,12 @@ module _ (Disk Notes : Type 0) (input : Taken) (name : List ℕ) where
       lines = λ told. going.lines told ∙ (ap (λ (t : Taken). done ++ lines_in t) (is told) ∙ sym (append_assoc done (l ∷ []) (lines_in rest)));
       limit = λ told. going.limit told ∙ ap passes_limit (is told);
       text = λ told.
-        let was = going.text told in
-        let next = (holds told).holds was.0 was.1 in
-        (next.0, next.1, next.2 ∙ (sym (append_assoc was.0 gathered (text_by (judged l))) ∙ (ap (λ (t : List ℕ). t ++ text_by (judged l)) was.2 ∙ sym (text-more l))));
+          let was = going.text told in
+          let next = (holds told).holds was.0 was.1 in
+          (next.0, next.1, next.2 ∙ (sym (append_assoc was.0 gathered (text_by (judged l))) ∙ (ap (λ (t : List ℕ). t ++ text_by (judged l)) was.2 ∙ sym (text-more l))));
       notes = λ told.
-        notes told ∙ (ap (λ (t : List ℕ). t ++ note_by (accepted + refused + 1) (judged l)) (going.notes told)
-        ∙ (append_assoc notes_old (pass_notes 1 done) (note_by (accepted + refused + 1) (judged l)) ∙ ap (λ (t : List ℕ). notes_old ++ t) (sym (notes-more l))));
+          notes told ∙ (ap (λ (t : List ℕ). t ++ note_by (accepted + refused + 1) (judged l)) (going.notes told)
+          ∙ (append_assoc notes_old (pass_notes 1 done) (note_by (accepted + refused + 1) (judged l)) ∙ ap (λ (t : List ℕ). notes_old ++ t) (sym (notes-more l))));
       accepted_is = omega (arith, more_accepted, going.accepted_is, count_accepted-append done (l ∷ []));
       refused_is = omega (arith, more_refused, going.refused_is, count_refused-append done (l ∷ []));
     }
@@ -119,9 +119,9 @@ module _ (Disk Notes : Type 0) (input : Taken) (name : List ℕ) where
     going-flushed new notes_new holds same = record {
       lines = going.lines;
       text = λ told.
-        let was = going.text told in
-        let next = (holds told).holds was.0 was.1 in
-        next.1 ∙ ap Some (sym (append-nil next.0) ∙ (next.2 ∙ was.2));
+          let was = going.text told in
+          let next = (holds told).holds was.0 was.1 in
+          next.1 ∙ ap Some (sym (append-nil next.0) ∙ (next.2 ∙ was.2));
       notes = λ told. same told ∙ going.notes told;
       accepted_is = going.accepted_is;
       refused_is = going.refused_is;
@@ -140,32 +140,35 @@ module _ (Disk Notes : Type 0) (input : Taken) (name : List ℕ) where
         → Fronts Disk Notes input name new notes_old notes_new
     fronts-in-line l rest new notes_new is holds notes = record {
       text = λ told.
-        let was = going.text told in
-        let next = (holds told).holds was.0 was.1 in
-        let whole = text-whole (l ∷ lines_in rest) (going.lines told ∙ ap (λ (t : Taken). done ++ lines_in t) (is told)) in
-        let more = pass_text (lines_in rest) in
-        (was.0 ++ next.0, next.1, record {
-          rest = next.2.rest ++ more;
-          whole = whole ∙ (ap (λ (t : List ℕ). t ++ (text_by (judged l) ++ more)) (sym was.2)
-            ∙ (append_assoc was.0 gathered (text_by (judged l) ++ more)
-            ∙ (ap (λ (t : List ℕ). was.0 ++ t) (sym (append_assoc gathered (text_by (judged l)) more) ∙ (ap (λ (t : List ℕ). t ++ more) next.2.whole ∙ append_assoc next.0 next.2.rest more))
-            ∙ sym (append_assoc was.0 next.0 (next.2.rest ++ more)))));
-        });
+          let was = going.text told in
+          let next = (holds told).holds was.0 was.1 in
+          let whole = text-whole (l ∷ lines_in rest) (going.lines told ∙ ap (λ (t : Taken). done ++ lines_in t) (is told)) in
+          let more = pass_text (lines_in rest) in (
+            was.0 ++ next.0,
+            next.1,
+            record {
+              rest = next.2.rest ++ more;
+              whole = whole ∙ (ap (λ (t : List ℕ). t ++ (text_by (judged l) ++ more)) (sym was.2)
+                  ∙ (append_assoc was.0 gathered (text_by (judged l) ++ more)
+                  ∙ (ap (λ (t : List ℕ). was.0 ++ t) (sym (append_assoc gathered (text_by (judged l)) more) ∙ (ap (λ (t : List ℕ). t ++ more) next.2.whole ∙ append_assoc next.0 next.2.rest more))
+                  ∙ sym (append_assoc was.0 next.0 (next.2.rest ++ more)))));
+            },
+          );
       notes = λ told note_told.
-        let grew = notes note_told in
-        let whole = notes-whole (l ∷ lines_in rest) (going.lines told ∙ ap (λ (t : Taken). done ++ lines_in t) (is told)) in
-        let more = pass_notes (1 + length done + 1) (lines_in rest) in
-        let note = note_by (1 + length done) (judged l) in
-        let note_is : note ≡ grew.front ++ grew.of_bytes.rest = ap (λ (k : ℕ). note_by k (judged l)) (sym number) ∙ grew.of_bytes.whole in
-        record {
-          front = pass_notes 1 done ++ grew.front;
-          of_bytes = record {
-            rest = grew.of_bytes.rest ++ more;
-            whole = whole ∙ (ap (λ (t : List ℕ). pass_notes 1 done ++ t) (ap (λ (t : List ℕ). t ++ more) note_is ∙ append_assoc grew.front grew.of_bytes.rest more)
-              ∙ sym (append_assoc (pass_notes 1 done) grew.front (grew.of_bytes.rest ++ more)));
+          let grew = notes note_told in
+          let whole = notes-whole (l ∷ lines_in rest) (going.lines told ∙ ap (λ (t : Taken). done ++ lines_in t) (is told)) in
+          let more = pass_notes (1 + length done + 1) (lines_in rest) in
+          let note = note_by (1 + length done) (judged l) in
+          let note_is : note ≡ grew.front ++ grew.of_bytes.rest = ap (λ (k : ℕ). note_by k (judged l)) (sym number) ∙ grew.of_bytes.whole in
+          record {
+            front = pass_notes 1 done ++ grew.front;
+            of_bytes = record {
+              rest = grew.of_bytes.rest ++ more;
+              whole = whole ∙ (ap (λ (t : List ℕ). pass_notes 1 done ++ t) (ap (λ (t : List ℕ). t ++ more) note_is ∙ append_assoc grew.front grew.of_bytes.rest more)
+                  ∙ sym (append_assoc (pass_notes 1 done) grew.front (grew.of_bytes.rest ++ more)));
+            };
+            grew = grew.grew ∙ (ap (λ (t : List ℕ). t ++ grew.front) (going.notes note_told) ∙ append_assoc notes_old (pass_notes 1 done) grew.front);
           };
-          grew = grew.grew ∙ (ap (λ (t : List ℕ). t ++ grew.front) (going.notes note_told) ∙ append_assoc notes_old (pass_notes 1 done) grew.front);
-        };
     }
 
     -- what was gathered was appended in part
@@ -173,17 +176,20 @@ module _ (Disk Notes : Type 0) (input : Taken) (name : List ℕ) where
         → Fronts Disk Notes input name new notes_old notes_new
     fronts-at-flush new notes_new holds same = record {
       text = λ told.
-        let was = going.text told in
-        let next = (holds told).holds was.0 was.1 in
-        let whole = text-whole (lines_in left) (going.lines told) in
-        let more = pass_text (lines_in left) in
-        (was.0 ++ next.0, next.1, record {
-          rest = next.2.rest ++ more;
-          whole = whole ∙ (ap (λ (t : List ℕ). t ++ more) (sym was.2)
-            ∙ (append_assoc was.0 gathered more
-            ∙ (ap (λ (t : List ℕ). was.0 ++ t) (ap (λ (t : List ℕ). t ++ more) next.2.whole ∙ append_assoc next.0 next.2.rest more)
-            ∙ sym (append_assoc was.0 next.0 (next.2.rest ++ more)))));
-        });
+          let was = going.text told in
+          let next = (holds told).holds was.0 was.1 in
+          let whole = text-whole (lines_in left) (going.lines told) in
+          let more = pass_text (lines_in left) in (
+            was.0 ++ next.0,
+            next.1,
+            record {
+              rest = next.2.rest ++ more;
+              whole = whole ∙ (ap (λ (t : List ℕ). t ++ more) (sym was.2)
+                  ∙ (append_assoc was.0 gathered more
+                  ∙ (ap (λ (t : List ℕ). was.0 ++ t) (ap (λ (t : List ℕ). t ++ more) next.2.whole ∙ append_assoc next.0 next.2.rest more)
+                  ∙ sym (append_assoc was.0 next.0 (next.2.rest ++ more)))));
+            },
+          );
       notes = λ told note_told. record {
         front = pass_notes 1 done;
         of_bytes = record { rest = pass_notes (1 + length done) (lines_in left); whole = notes-whole (lines_in left) (going.lines told) };
@@ -241,7 +247,7 @@ module _ (Disk Notes : Type 0) (input : Taken) (name : List ℕ) where
     ends-with-lines (Ok x) new after writes writes_now accepted_new refused_new none blame text emptied same_accepted same_refused = (
       done,
       counted new notes_now [] accepted_new refused_new same_accepted same_refused
-        (stands-at-end new notes_now (λ told. ap lines_in (none told)) (λ told. subst (λ (l : List ℕ). Holds name gathered l now new) emptied (text told)) (λ told. refl)),
+          (stands-at-end new notes_now (λ told. ap lines_in (none told)) (λ told. subst (λ (l : List ℕ). Holds name gathered l now new) emptied (text told)) (λ told. refl)),
       λ told. going.limit told ∙ ap passes_limit (none told),
     )
 
@@ -251,18 +257,18 @@ module _ (Disk Notes : Type 0) (input : Taken) (name : List ℕ) where
     ends-by-stop line_stop.TooLong new after accepted_new refused_new long text emptied same_accepted same_refused = (
       done,
       counted new notes_now [] accepted_new refused_new same_accepted same_refused
-        (stands-at-end new notes_now (λ told. ap lines_in (long refl told)) (λ told. subst (λ (l : List ℕ). Holds name gathered l now new) emptied (text told)) (λ told. refl)),
+          (stands-at-end new notes_now (λ told. ap lines_in (long refl told)) (λ told. subst (λ (l : List ℕ). Holds name gathered l now new) emptied (text told)) (λ told. refl)),
       λ told. going.limit told ∙ ap passes_limit (long refl told),
     )
     ends-by-stop line_stop.NoMemory new after accepted_new refused_new long text emptied same_accepted same_refused = (
       done,
       lines_in left,
       counted new notes_now (lines_in left) accepted_new refused_new same_accepted same_refused
-        (going-flushed new notes_now (λ told. subst (λ (l : List ℕ). Holds name gathered l now new) emptied (text told)) (λ told. refl)),
+          (going-flushed new notes_now (λ told. subst (λ (l : List ℕ). Holds name gathered l now new) emptied (text told)) (λ told. refl)),
     )
     ends-by-stop line_stop.Fault new after accepted_new refused_new long text emptied same_accepted same_refused = (
       done,
       lines_in left,
       counted new notes_now (lines_in left) accepted_new refused_new same_accepted same_refused
-        (going-flushed new notes_now (λ told. subst (λ (l : List ℕ). Holds name gathered l now new) emptied (text told)) (λ told. refl)),
+          (going-flushed new notes_now (λ told. subst (λ (l : List ℕ). Holds name gathered l now new) emptied (text told)) (λ told. refl)),
     )

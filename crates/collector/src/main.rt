@@ -5,11 +5,10 @@ mod pass;
 mod payload;
 mod run;
 mod status;
-mod top;
-mod words;
-
 #[cfg(test)]
 mod tests;
+mod top;
+mod words;
 
 use std::io;
 use std::process::ExitCode;

@@ -104,7 +104,12 @@ impl Progress {
     }
 
     /// Writes the note of a refused line.
-    fn refuse<N: Sink>(&mut self, alloc: Global, fault: PayloadFault, notes: &mut N) -> Result<(), Stop>
+    fn refuse<N: Sink>(
+        &mut self,
+        alloc: Global,
+        fault: PayloadFault,
+        notes: &mut N,
+    ) -> Result<(), Stop>
         requires { self.old.accepted + self.old.refused < 1000000 }
         ensures gathered { self.new.gathered.items ≡ self.old.gathered.items }
         ensures accepted { self.new.accepted ≡ self.old.accepted }
@@ -128,7 +133,14 @@ impl Progress {
     }
 
     /// Takes one line: gathers the written form of its payload, or writes its note.
-    fn pass_line<D: Disk, N: Sink>(&mut self, alloc: Global, line: &[u8], output: &str, disk: &mut D, notes: &mut N) -> Result<(), Stop>
+    fn pass_line<D: Disk, N: Sink>(
+        &mut self,
+        alloc: Global,
+        line: &[u8],
+        output: &str,
+        disk: &mut D,
+        notes: &mut N,
+    ) -> Result<(), Stop>
         requires { self.old.accepted + self.old.refused < 1000000 }
         ensures text { D.tells disk.old → LineText output.now line.now self.old.gathered.items self.new.gathered.items (D.held disk.old) (D.held disk.new) result }
         ensures note { N.tells notes.old → LineNote (self.old.accepted + self.old.refused + 1) line.now (N.held notes.old) (N.held notes.new) result }
@@ -156,7 +168,14 @@ impl Progress {
 }
 
 /// Takes all lines, and appends what was gathered at their end.
-pub fn pass_lines<D: Disk, N: Sink>(alloc: Global, lines: &mut Lines, output: &str, progress: &mut Progress, disk: &mut D, notes: &mut N) -> Result<(), Stop>
+pub fn pass_lines<D: Disk, N: Sink>(
+    alloc: Global,
+    lines: &mut Lines,
+    output: &str,
+    progress: &mut Progress,
+    disk: &mut D,
+    notes: &mut N,
+) -> Result<(), Stop>
     requires live { IsTrue lines.old.live }
     requires apart { lines.old.mark.name ≢ output.now }
     requires fresh { (progress.old.gathered.items ≡ []) × (progress.old.accepted ≡ 0) × (progress.old.refused ≡ 0) }
@@ -171,7 +190,13 @@ pub fn pass_lines<D: Disk, N: Sink>(alloc: Global, lines: &mut Lines, output: &s
 {
     'lines: loop {
         match lines.next(disk) {
-            Ok(Some(line)) => match progress.pass_line(alloc, line.as_slice(), output, disk, notes) {
+            Ok(Some(line)) => match progress.pass_line(
+                alloc,
+                line.as_slice(),
+                output,
+                disk,
+                notes,
+            ) {
                 Ok(()) => {}
                 Err(stop) => return Err(stop),
             },

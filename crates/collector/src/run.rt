@@ -33,7 +33,9 @@ fn sum_up<O: Sink>(alloc: Global, accepted: u32, refused: u32, out: &mut O) -> S
     ensures { Sums (O.tells out.old) result accepted refused (O.held out.old) (O.held out.new) (O.faults out.old) (O.faults out.new) }
 {
     let payloads = accepted + refused;
-    let line = match format!(in alloc; "payloads {payloads} accepted {accepted} refused {refused}\n") {
+    let line = match format!(in alloc;
+        "payloads {payloads} accepted {accepted} refused {refused}\n"
+    ) {
         Ok(line) => line,
         Err(_) => return Status::NoMemory,
     };
@@ -49,7 +51,14 @@ fn sum_up<O: Sink>(alloc: Global, accepted: u32, refused: u32, out: &mut O) -> S
 }
 
 /// Writes each accepted payload of the input in its one form. The output is created before the input is read.
-pub fn run_pass<D: Disk, O: Sink, N: Sink>(alloc: Global, input: &str, output: &str, disk: &mut D, out: &mut O, notes: &mut N) -> Status
+pub fn run_pass<D: Disk, O: Sink, N: Sink>(
+    alloc: Global,
+    input: &str,
+    output: &str,
+    disk: &mut D,
+    out: &mut O,
+    notes: &mut N,
+) -> Status
     requires { input.now ≢ output.now }
     // What stands at the end, where all is told.
     ensures leaves { D.tells disk.old → O.tells out.old → N.tells notes.old → Leaves result (input_of (D.held disk.old) input.now) output.now (D.held disk.old) (D.held disk.new) (O.held out.old) (O.held out.new) (N.held notes.old) (N.held notes.new) }

@@ -16,7 +16,13 @@ use tele_io::{Disk, Sink, write_all};
 const USAGE: &[u8] = b"usage: pass IN OUT\n";
 
 /// Runs the command that the words spell.
-pub fn collector<D: Disk, O: Sink, N: Sink>(alloc: Global, words: &[String], disk: &mut D, out: &mut O, notes: &mut N) -> Status
+pub fn collector<D: Disk, O: Sink, N: Sink>(
+    alloc: Global,
+    words: &[String],
+    disk: &mut D,
+    out: &mut O,
+    notes: &mut N,
+) -> Status
     // Words of no command: the disk and the output stay.
     ensures usage_only { result ≡ Status.Usage → command_of (spelled words.now) ≡ None }
     ensures usage { command_of (spelled words.now) ≡ None → (result ≡ Status.Usage) ⊎ (result ≡ Status.WriteFault) }

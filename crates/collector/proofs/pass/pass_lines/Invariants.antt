@@ -9,8 +9,8 @@ abbrev pub invariant-lines : goal.invariant-lines
 invariant-lines g l = record {
   going : (g.D.Disk.tells l.fn.disk → (g.D.Disk.held l.fn.disk l.output ≡ Some []) × IsAhead (g.D.Disk.held l.fn.disk l.fn.lines.mark.name) l.fn.lines.mark)
       → Going (g.D.Disk.tells l.fn.disk) (g.N.Sink.tells l.fn.notes)
-        (left (g.D.Disk.held l.fn.disk l.fn.lines.mark.name) l.fn.lines.mark) (left (g.D.Disk.held l.fn.disk l.fn.lines.mark.name) l.lines.mark)
-        l.output (g.D.Disk.held l.disk) l.progress.gathered.items (g.N.Sink.held l.fn.notes) (g.N.Sink.held l.notes) l.progress.accepted l.progress.refused;
+      (left (g.D.Disk.held l.fn.disk l.fn.lines.mark.name) l.fn.lines.mark) (left (g.D.Disk.held l.fn.disk l.fn.lines.mark.name) l.lines.mark)
+      l.output (g.D.Disk.held l.disk) l.progress.gathered.items (g.N.Sink.held l.fn.notes) (g.N.Sink.held l.notes) l.progress.accepted l.progress.refused;
   ahead : g.D.Disk.tells l.fn.disk → IsAhead (g.D.Disk.held l.fn.disk l.fn.lines.mark.name) l.fn.lines.mark → IsAhead (g.D.Disk.held l.fn.disk l.fn.lines.mark.name) l.lines.mark;
   file : g.D.Disk.tells l.fn.disk → g.D.Disk.held l.disk l.lines.mark.name ≡ g.D.Disk.held l.fn.disk l.fn.lines.mark.name;
   others : g.D.Disk.tells l.fn.disk → OthersStay l.output (g.D.Disk.held l.fn.disk) (g.D.Disk.held l.disk);

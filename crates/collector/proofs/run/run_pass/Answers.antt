@@ -29,9 +29,9 @@ returns-in-Ok-pass_lines-clause-leaves g c = λ told out_told note_told.
     let input = whole (g.D.Disk.held c.args.disk.now) (g.D.Disk.held c.create.new.self) c.in-Ok.lines c.args.input.now c.in-Ok.ensures.at_start (c.create.ensures.others told c.args.input.now c.requires) in
     let ends = c.in-Ok-pass_lines.ensures.ends (λ tells. (c.in-Ok-create.ensures.ok told, c.in-Ok.ensures.ahead _)) in
     subst
-      (λ (taken : Taken). Leaves c.sum_up.result taken c.args.output.now (g.D.Disk.held c.args.disk.now) (g.D.Disk.held c.pass_lines.new.disk) (g.O.Sink.held c.args.out.now) (g.O.Sink.held c.sum_up.new.out) (g.N.Sink.held c.args.notes.now) (g.N.Sink.held c.pass_lines.new.notes))
-      input
-      (leaves-by-sum _ _ _ _ _ _ _ _ _ _ _ c.sum_up.result _ _ _ _ ends c.sum_up.ensures (c.create.ensures.tells told) out_told note_told)
+    (λ (taken : Taken). Leaves c.sum_up.result taken c.args.output.now (g.D.Disk.held c.args.disk.now) (g.D.Disk.held c.pass_lines.new.disk) (g.O.Sink.held c.args.out.now) (g.O.Sink.held c.sum_up.new.out) (g.N.Sink.held c.args.notes.now) (g.N.Sink.held c.pass_lines.new.notes))
+    input
+    (leaves-by-sum _ _ _ _ _ _ _ _ _ _ _ c.sum_up.result _ _ _ _ ends c.sum_up.ensures (c.create.ensures.tells told) out_told note_told)
 
 pub returns-clause-leaves : goal.returns-clause-leaves
 returns-clause-leaves g c = λ told out_told note_told.
@@ -39,6 +39,6 @@ returns-clause-leaves g c = λ told out_told note_told.
     let ends = c.in-Err-pass_lines.ensures.ends (λ tells. (c.in-Ok-create.ensures.ok told, c.in-Ok.ensures.ahead _)) in
     rw c.from.ensures
     (subst
-      (λ (taken : Taken). Leaves (status_of c.in-Err-pass_lines.stop) taken c.args.output.now (g.D.Disk.held c.args.disk.now) (g.D.Disk.held c.pass_lines.new.disk) (g.O.Sink.held c.args.out.now) (g.O.Sink.held c.args.out.now) (g.N.Sink.held c.args.notes.now) (g.N.Sink.held c.pass_lines.new.notes))
-      input
-      (leaves-by-stop _ _ _ _ (g.D.Disk.held c.args.disk.now) _ _ _ _ _ c.in-Err-pass_lines.stop (g.O.Sink.held c.args.out.now) ends (c.create.ensures.tells told) note_told))
+    (λ (taken : Taken). Leaves (status_of c.in-Err-pass_lines.stop) taken c.args.output.now (g.D.Disk.held c.args.disk.now) (g.D.Disk.held c.pass_lines.new.disk) (g.O.Sink.held c.args.out.now) (g.O.Sink.held c.args.out.now) (g.N.Sink.held c.args.notes.now) (g.N.Sink.held c.pass_lines.new.notes))
+    input
+    (leaves-by-stop _ _ _ _ (g.D.Disk.held c.args.disk.now) _ _ _ _ _ c.in-Err-pass_lines.stop (g.O.Sink.held c.args.out.now) ends (c.create.ensures.tells told) note_told))

@@ -1,0 +1,10 @@
+use Rattle.std.proofs.Common.{length, ◌-◌}
+use Rattle.pdata_value.specs.Numeral.{is_digit}
+use Rattle.json_text.proofs.Scans.{GoesOn}
+use Rattle.json_text.proofs.scan.digit_len.Given as goal
+
+abbrev pub invariant-loop-count : goal.invariant-loop-count
+invariant-loop-count l = GoesOn is_digit l.bytes l.count
+
+abbrev pub decreases-loop-count : goal.decreases-loop-count
+decreases-loop-count l = length l.bytes - l.count

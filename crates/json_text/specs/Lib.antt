@@ -1,0 +1,6 @@
+-- What a text of JSON is read as, and how a value is written.
+pub mod Place
+pub mod Reading
+pub mod Writing
+-- Inside this crate: what stands between two places.
+pub mod Spelled

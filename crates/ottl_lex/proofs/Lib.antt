@@ -1,0 +1,12 @@
+pub mod Digits
+pub mod Closing
+pub mod Steps
+pub mod Pieces
+pub mod Loop
+pub mod Closes
+pub mod Tests
+pub mod EscapeLemmas
+pub mod Texts
+pub mod First
+pub mod Stands
+pub mod Longest

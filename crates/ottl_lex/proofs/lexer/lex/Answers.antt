@@ -1,0 +1,17 @@
+use Rattle.std.proofs.Common.{◌∙◌, sym, arith}
+use Rattle.ottl_lex.specs.Tokens.{tokens_of}
+use Rattle.ottl_lex.proofs.Loop.{tokens-step}
+use Rattle.ottl_lex.proofs.lexer.lex.Goals as goal
+
+-- a token is passed
+pub tokens-preserved : goal.tokens-preserved
+tokens-preserved c =
+    let here = c.tokens in
+    let token = c.in_ok-token.token in
+    let solid = sym c.is_blank.ensures ∙ c.if-is_blank.false in
+    let back = c.split_at.ensures.back in
+    let pushed = c.in_ok-push.ensures.ok in
+    record {
+      reads = rw (pushed, back) (tokens-step here.tokens here.at here.rest.now (tokens_of c.args.text.now) token c.in-len1-up.len_at_least solid c.in_ok-token.ensures.value c.in_ok-token.ensures.within.0 here.invariant.reads);
+      room = omega (arith, c.split_at.ensures.back_len, c.in_ok-token.ensures.within.0, c.in_ok-token.ensures.within.1);
+    }

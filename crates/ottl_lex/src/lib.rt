@@ -1,0 +1,17 @@
+//! Tokens of statements and conditions.
+#![tactic(auto)]
+
+mod fault;
+mod laws;
+mod lengths;
+mod lexer;
+mod numbers;
+mod quoted;
+mod token;
+
+pub use fault::{SyntaxFault, SyntaxKind, SyntaxStop};
+pub use laws::tokens_are_longest;
+pub use lexer::{MAX_TEXT, lex};
+pub use numbers::{read_digits, read_literal};
+pub use quoted::read_text;
+pub use token::{Token, TokenKind, Tokens};
