@@ -7,6 +7,7 @@ use std::test::Fail;
 fn lists_grow_and_shrink(rt: HostRuntime) -> Result<(), Fail> {
     let mut list = ItemList::new(rt.alloc());
     assert!(rt; list.is_empty());
+    assert_eq!(rt; ItemList::<u8>::new(list.allocator()).len(), 0);
     list.push(1u8)?;
     list.push(2)?;
     list.append(ItemList::from_slice(rt.alloc(), &[3, 4])?)?;

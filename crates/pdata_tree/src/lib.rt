@@ -10,3 +10,6 @@ pub use batch::{Batch, Resources};
 pub use record::LogRecord;
 pub use resource::{ResourceNode, ResourceTree, Scopes};
 pub use scope::{Logs, ScopeNode, ScopeTree};
+
+#[cfg(test)]
+mod tests;

@@ -1,7 +1,10 @@
-pub mod Tests
+pub mod Bools
 pub mod Maps
 pub mod PairSteps
+pub mod Puts
 pub mod Measures
 pub mod Sames
 pub mod SameSteps
+pub mod Induction
+pub mod Equivalence
 pub mod Numerals

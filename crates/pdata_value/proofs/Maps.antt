@@ -4,7 +4,7 @@ use Rattle.std.specs.Prelude.{◌||◌, Option, Some, None}
 use Rattle.std.specs.Str.{bytes_eq}
 use Rattle.std.proofs.lemmas.Grind.{common_steps}
 use Rattle.pdata_value.specs.Pairs.{get, has_key}
-use Rattle.pdata_value.proofs.Tests.{picks, bytes_self}
+use Rattle.pdata_value.proofs.Bools.{picks, bytes_self}
 
 module _ {V : Type 0} where
   past_on : (t : Bool) (v : V) (xs : List (List ℕ × V)) (key : List ℕ) (found : Option V) (rest : Option V)

@@ -6,7 +6,7 @@ use Rattle.std.proofs.lemmas.List.{append-nil}
 use Rattle.std.proofs.lemmas.Bool.Decides.{nat_tests}
 use Rattle.contract_words.specs.Grammar.{Rule, byte, seq, many, spells, Turns}
 use Rattle.pdata_value.specs.Numeral.{optional, digits, int, frac, exp, numeral, is_digit, is_leading, is_e, is_sign, IsSpelling}
-use Rattle.pdata_value.proofs.Tests.{picks, skips, both, left, right, same_bytes, bytes_same}
+use Rattle.pdata_value.proofs.Bools.{picks, skips, both, left, right, same_bytes, bytes_same}
 use Rattle.pdata_value.specs.Scan.{after_digits, is_nothing, are_digits, is_power, is_exponent, is_fraction, is_scale, is_unsigned, is_numeral, is_spelling}
 
 -- kinds of bytes

@@ -6,7 +6,7 @@ use Rattle.pdata_value.specs.Pairs.{get, has_key}
 use Rattle.pdata_value.specs.Places.{keys_within}
 use Rattle.pdata_value.specs.Same.{same, same_items, same_answer, same_keys, same_pairs}
 use Rattle.pdata_value.specs.declared.value.Value.{Value}
-use Rattle.pdata_value.proofs.Tests.{left, right, both, and_false, and_assoc, or_true, same_bytes, bytes_self}
+use Rattle.pdata_value.proofs.Bools.{left, right, both, and_false, and_assoc, or_true, same_bytes, bytes_self}
 use Rattle.pdata_value.proofs.Maps.{get-first, get-missing, get-there, split_at, take-one}
 
 -- lists of different lengths

@@ -185,6 +185,83 @@ no-Map a _ h = refl
 pub same-Map-other : (a : Pairs) (w : Value) → ((b : Pairs) → w ≡ variants.Map b → ⊥) → same (variants.Map a) w ≡ false
 same-Map-other a w h = level-Map a w ∙ no-Map a (out-Value w) (λ b e. h b (back w (Value-F.Map b) (variants.Map b) (variants.rolls-Map b) e))
 
-pub ruleset sames = (same-Empty-Empty, same-Text-Text, same-Truth-Truth, same-Int-Int, same-Double-Double, same-Bytes-Bytes, same-List-List, same-Map-Map)
+-- What is the same as a value of a kind is of that kind.
 
-pub ruleset others = (same-Empty-other, same-Text-other, same-Truth-other, same-Int-other, same-Double-other, same-Bytes-other, same-List-other, same-Map-other)
+is-Empty : (x : Value-F Value Pairs Values) → layer_same Value-F.Empty x ≡ true → x ≡ Value-F.Empty
+is-Empty Value-F.Empty h = refl
+is-Empty _ h = absurd cc
+
+pub like-Empty : (w : Value) → same variants.Empty w ≡ true → w ≡ variants.Empty
+like-Empty w h = back w Value-F.Empty variants.Empty variants.rolls-Empty (is-Empty (out-Value w) (sym (level-Empty w) ∙ h))
+
+is-Text : (a : List ℕ) (x : Value-F Value Pairs Values) → layer_same (tested (Value-F.Text a)) x ≡ true → (b : List ℕ) × (x ≡ Value-F.Text b)
+is-Text a (Value-F.Text b) h = (b, refl)
+is-Text a _ h = absurd cc
+
+pub like-Text : (a : List ℕ) (w : Value) → same (variants.Text a) w ≡ true → (b : List ℕ) × (w ≡ variants.Text b) × (bytes_eq a b ≡ true)
+like-Text a w h =
+    let found = is-Text a (out-Value w) (sym (level-Text a w) ∙ h) in
+    let is : w ≡ variants.Text found.0 = back w (Value-F.Text found.0) (variants.Text found.0) (variants.rolls-Text found.0) found.1 in
+    (found.0, is, sym (same-Text-Text a found.0) ∙ ap (same (variants.Text a)) (sym is) ∙ h)
+
+is-Truth : (a : Bool) (x : Value-F Value Pairs Values) → layer_same (tested (Value-F.Truth a)) x ≡ true → (b : Bool) × (x ≡ Value-F.Truth b)
+is-Truth a (Value-F.Truth b) h = (b, refl)
+is-Truth a _ h = absurd cc
+
+pub like-Truth : (a : Bool) (w : Value) → same (variants.Truth a) w ≡ true → (b : Bool) × (w ≡ variants.Truth b) × (beq a b ≡ true)
+like-Truth a w h =
+    let found = is-Truth a (out-Value w) (sym (level-Truth a w) ∙ h) in
+    let is : w ≡ variants.Truth found.0 = back w (Value-F.Truth found.0) (variants.Truth found.0) (variants.rolls-Truth found.0) found.1 in
+    (found.0, is, sym (same-Truth-Truth a found.0) ∙ ap (same (variants.Truth a)) (sym is) ∙ h)
+
+is-Int : (a : ℤ) (x : Value-F Value Pairs Values) → layer_same (tested (Value-F.Int a)) x ≡ true → (b : ℤ) × (x ≡ Value-F.Int b)
+is-Int a (Value-F.Int b) h = (b, refl)
+is-Int a _ h = absurd cc
+
+pub like-Int : (a : ℤ) (w : Value) → same (variants.Int a) w ≡ true → (b : ℤ) × (w ≡ variants.Int b) × (int_eq a b ≡ true)
+like-Int a w h =
+    let found = is-Int a (out-Value w) (sym (level-Int a w) ∙ h) in
+    let is : w ≡ variants.Int found.0 = back w (Value-F.Int found.0) (variants.Int found.0) (variants.rolls-Int found.0) found.1 in
+    (found.0, is, sym (same-Int-Int a found.0) ∙ ap (same (variants.Int a)) (sym is) ∙ h)
+
+is-Double : (a : List ℕ) (x : Value-F Value Pairs Values) → layer_same (tested (Value-F.Double a)) x ≡ true → (b : List ℕ) × (x ≡ Value-F.Double b)
+is-Double a (Value-F.Double b) h = (b, refl)
+is-Double a _ h = absurd cc
+
+pub like-Double : (a : List ℕ) (w : Value) → same (variants.Double a) w ≡ true → (b : List ℕ) × (w ≡ variants.Double b) × (bytes_eq a b ≡ true)
+like-Double a w h =
+    let found = is-Double a (out-Value w) (sym (level-Double a w) ∙ h) in
+    let is : w ≡ variants.Double found.0 = back w (Value-F.Double found.0) (variants.Double found.0) (variants.rolls-Double found.0) found.1 in
+    (found.0, is, sym (same-Double-Double a found.0) ∙ ap (same (variants.Double a)) (sym is) ∙ h)
+
+is-Bytes : (a : List ℕ) (x : Value-F Value Pairs Values) → layer_same (tested (Value-F.Bytes a)) x ≡ true → (b : List ℕ) × (x ≡ Value-F.Bytes b)
+is-Bytes a (Value-F.Bytes b) h = (b, refl)
+is-Bytes a _ h = absurd cc
+
+pub like-Bytes : (a : List ℕ) (w : Value) → same (variants.Bytes a) w ≡ true → (b : List ℕ) × (w ≡ variants.Bytes b) × (bytes_eq a b ≡ true)
+like-Bytes a w h =
+    let found = is-Bytes a (out-Value w) (sym (level-Bytes a w) ∙ h) in
+    let is : w ≡ variants.Bytes found.0 = back w (Value-F.Bytes found.0) (variants.Bytes found.0) (variants.rolls-Bytes found.0) found.1 in
+    (found.0, is, sym (same-Bytes-Bytes a found.0) ∙ ap (same (variants.Bytes a)) (sym is) ∙ h)
+
+is-List : (a : Values) (x : Value-F Value Pairs Values) → layer_same (tested (Value-F.List a)) x ≡ true → (b : Values) × (x ≡ Value-F.List b)
+is-List a (Value-F.List b) h = (b, refl)
+is-List a _ h = absurd cc
+
+pub like-List : (a : Values) (w : Value) → same (variants.List a) w ≡ true → (b : Values) × (w ≡ variants.List b) × (same_items (items a) (items b) ≡ true)
+like-List a w h =
+    let found = is-List a (out-Value w) (sym (level-List a w) ∙ h) in
+    let is : w ≡ variants.List found.0 = back w (Value-F.List found.0) (variants.List found.0) (variants.rolls-List found.0) found.1 in
+    (found.0, is, sym (same-List-List a found.0) ∙ ap (same (variants.List a)) (sym is) ∙ h)
+
+is-Map : (a : Pairs) (x : Value-F Value Pairs Values) → layer_same (tested (Value-F.Map a)) x ≡ true → (b : Pairs) × (x ≡ Value-F.Map b)
+is-Map a (Value-F.Map b) h = (b, refl)
+is-Map a _ h = absurd cc
+
+pub like-Map : (a : Pairs) (w : Value) → same (variants.Map a) w ≡ true → (b : Pairs) × (w ≡ variants.Map b) × (same_pairs (pairs a) (pairs b) ≡ true)
+like-Map a w h =
+    let found = is-Map a (out-Value w) (sym (level-Map a w) ∙ h) in
+    let is : w ≡ variants.Map found.0 = back w (Value-F.Map found.0) (variants.Map found.0) (variants.rolls-Map found.0) found.1 in
+    (found.0, is, sym (same-Map-Map a found.0) ∙ ap (same (variants.Map a)) (sym is) ∙ h)
+
+pub ruleset sames = (same-Empty-Empty, same-Text-Text, same-Truth-Truth, same-Int-Int, same-Double-Double, same-Bytes-Bytes, same-List-List, same-Map-Map)

@@ -1,5 +1,5 @@
 -- A list of pairs as a map: the first pair with a key counts.
-use Rattle.std.specs.Prelude.{ℕ, Bool, true, false, ◌||◌, List, [], ◌∷◌, Option, Some, None, cond, not, filter}
+use Rattle.std.specs.Prelude.{ℕ, Bool, true, false, ◌&&◌, ◌||◌, List, [], ◌∷◌, Option, Some, None, cond, not, filter}
 use Rattle.std.specs.Str.{bytes_eq}
 use Rattle.pdata_value.specs.declared.merge.Strategy.{Strategy}
 use Rattle.pdata_value.specs.declared.merge.Strategy.TheVariants.{Insert, Update, Upsert}
@@ -46,3 +46,18 @@ takes Upsert had = true
 -- the pairs that the strategy takes are put one after another
 abbrev pub merged : {V : Type 0} → Strategy → List (List ℕ × V) → List (List ℕ × V) → List (List ℕ × V)
 merged strategy ps qs = put_all ps (filter (λ q. takes strategy (has_key ps q.0)) qs)
+
+-- the first of two answers that is one
+abbrev pub first_of : {V : Type 0} → Option V → Option V → Option V
+first_of None other = other
+first_of (Some v) other = Some v
+
+-- the value of the last pair with the key
+abbrev pub get_last : {V : Type 0} → List (List ℕ × V) → List ℕ → Option V
+get_last [] key = None
+get_last (p ∷ ps) key = first_of (get_last ps key) (cond (bytes_eq p.0 key) (Some p.1) None)
+
+-- no key stands twice
+abbrev pub is_distinct : {V : Type 0} → List (List ℕ × V) → Bool
+is_distinct [] = true
+is_distinct (p ∷ ps) = not (has_key ps p.0) && is_distinct ps

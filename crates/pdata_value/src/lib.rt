@@ -3,6 +3,7 @@
 
 mod bytes;
 mod error;
+mod laws;
 mod measure;
 mod merge;
 mod numeral;
@@ -15,9 +16,16 @@ mod values;
 
 pub use bytes::Bytes;
 pub use error::{EvalErr, EvalStop};
+pub use laws::{
+    maps_are_the_same_key_by_key, same_is_an_equivalence,
+    upsert_into_the_empty_map_keeps_last_values, what_is_put_is_found,
+};
 pub use merge::Strategy;
 pub use pairs::Pairs;
 pub use spelling::{Spelling, SpellingStop};
 pub use text::Text;
 pub use value::Value;
 pub use values::Values;
+
+#[cfg(test)]
+mod tests;

@@ -35,6 +35,12 @@ impl Pairs {
         Pairs { items: list }
     }
 
+    pub fn into_list(self) -> ItemList<(Text, Value)>
+        ensures { result ≡ pairs self }
+    {
+        self.items
+    }
+
     pub fn len(&self) -> usize
         ensures { result ≡ length (pairs self.now) }
     {
@@ -77,7 +83,7 @@ impl Pairs {
     pub fn get(&self, key: &str) -> Option<&Value>
         ensures { option_copied result ≡ get (pairs self.now) key.now }
     {
-        for pair in self.items.as_slice() {
+        for pair in self.as_slice() {
             if pair.0.as_str() == key {
                 return Some(&pair.1);
             }

@@ -1,8 +1,8 @@
 //! When two values are the same.
 
 ghost use Rattle.std.specs.Prelude.{◌≡◌, Some};
-ghost use Rattle.std.specs.Option.{option_copied};
 ghost use Rattle.pdata_value.specs.Value.{pairs as pairs_of};
+ghost use Rattle.pdata_value.specs.Pairs.{get};
 ghost use Rattle.pdata_value.specs.Same.{same, same_items, same_answer, same_keys};
 ghost use Rattle.pdata_value.specs.Places.{keys_within};
 
@@ -81,7 +81,7 @@ fn are_same_at_keys(pairs: &[(Text, Value)], others: &Pairs) -> bool
 {
     for (i, pair) in pairs.iter().enumerate() {
         let key = pair.0.as_str();
-        if !has_key(&pairs[..i], key) && !is_same_as_found(&pair.1, others.get(key)) {
+        if !has_key(&pairs[..i], key) && !is_same_at_key(&pair.1, key, others) {
             return false;
         }
     }
@@ -89,10 +89,10 @@ fn are_same_at_keys(pairs: &[(Text, Value)], others: &Pairs) -> bool
 }
 
 #[cycle(same)]
-fn is_same_as_found(value: &Value, found: Option<&Value>) -> bool
-    ensures { result ≡ same_answer (Some value.now) (option_copied found.entry) }
+fn is_same_at_key(value: &Value, key: &str, others: &Pairs) -> bool
+    ensures { result ≡ same_answer (Some value.now) (get (pairs_of others.now) key.now) }
 {
-    match found {
+    match others.get(key) {
         Some(other) => value.same(other),
         None => false,
     }

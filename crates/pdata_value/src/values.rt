@@ -31,6 +31,12 @@ impl Values {
         Values { items: list }
     }
 
+    pub fn into_list(self) -> ItemList<Value>
+        ensures { result ≡ items self }
+    {
+        self.items
+    }
+
     pub fn len(&self) -> usize
         ensures { result ≡ length (items self.now) }
     {

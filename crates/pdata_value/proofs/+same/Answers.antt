@@ -1,4 +1,4 @@
-use Rattle.std.proofs.Common.{◌≡◌, ◌∙◌, ℕ, ◌<◌, true, false, List, length, take, Option, Some, sym, ap, subst, arith}
+use Rattle.std.proofs.Common.{◌≡◌, ◌∙◌, ℕ, ◌<◌, true, false, List, length, take, Some, sym, ap, subst, arith}
 use Rattle.pdata_value.specs.Value.{pairs}
 use Rattle.pdata_value.specs.Pairs.{get, has_key}
 use Rattle.pdata_value.specs.Places.{keys_within}
@@ -8,7 +8,7 @@ use Rattle.pdata_value.specs.declared.value.Value.TheVariants as variants
 use Rattle.pdata_value.proofs.Sames.{same-Empty-other, same-Text-other, same-Truth-other, same-Int-other, same-Double-other, same-Bytes-other, same-List-other, same-Map-other, same-Map-Map}
 use Rattle.pdata_value.proofs.SameSteps.{lengths_differ, known_alike, one_more, one_differs, found_first, same_pairs-within}
 use Rattle.pdata_value.proofs.+same.Goals as goal
-use Rattle.pdata_value.proofs.+same.Goals.{same::are_same_at_keys-else-not-has_key-via-then-not-has_key+else-not-is_same_as_found, same::are_same_at_keys-else-not-has_key-via-else-not-has_key}
+use Rattle.pdata_value.proofs.+same.Goals.{same::are_same_at_keys-else-not-has_key-via-then-not-has_key+else-not-is_same_at_key, same::are_same_at_keys-else-not-has_key-via-else-not-has_key}
 
 pub value::Value::same-returns-in_default : goal.value::Value::same-returns-in_default
 value::Value::same-returns-in_default t c =
@@ -60,8 +60,8 @@ pub same::are_same-returns-then-values-others : goal.same::are_same-returns-then
 same::are_same-returns-then-values-others t c = sym (lengths_differ c.args.values.now c.args.others.now c.if-values-others.true)
 
 -- the pair is the first with its key, and what the other map has there differs
-pub same::are_same_at_keys-returns-then-not-is_same_as_found : goal.same::are_same_at_keys-returns-then-not-is_same_as_found
-same::are_same_at_keys-returns-then-not-is_same_as_found t c =
+pub same::are_same_at_keys-returns-then-not-is_same_at_key : goal.same::are_same_at_keys-returns-then-not-is_same_at_key
+same::are_same_at_keys-returns-then-not-is_same_at_key t c =
     let ps = c.args.pairs.now in
     let qs = pairs c.args.others.now in
     let i = c.loop-i.i in
@@ -69,10 +69,8 @@ same::are_same_at_keys-returns-then-not-is_same_as_found t c =
     let within : i < length ps = omega arith in
     let first : has_key (take i ps) p.0 ≡ false =
     subst (λ (k : List ℕ). has_key (take i ps) k ≡ false) c.as_str-key.ensures.value (sym c.if-not-has_key.ensures) in
-    let found : same_answer (Some p.1) (get qs c.as_str-key.result.now) ≡ false =
-    subst (λ (f : Option Value). same_answer (Some p.1) f ≡ false) c.get.ensures (sym c.if-not-is_same_as_found.ensures) in
     let differs : same_answer (Some p.1) (get qs p.0) ≡ false =
-    subst (λ (k : List ℕ). same_answer (Some p.1) (get qs k) ≡ false) c.as_str-key.ensures.value found in
+    subst (λ (k : List ℕ). same_answer (Some p.1) (get qs k) ≡ false) c.as_str-key.ensures.value (sym c.if-not-is_same_at_key.ensures) in
     sym (one_differs ps qs i p within c.index-pairs-i.is (found_first ps qs i p within c.index-pairs-i.is first ∙ differs))
 
 -- the pair was compared now, or one with its key before
@@ -84,13 +82,11 @@ same::are_same_at_keys-loop-i-preserved t c =
     let p = c.index-pairs-i.result in
     let within : i < length ps = omega arith in
     elim c.else-not-has_key.branch [
-      | same::are_same_at_keys-else-not-has_key-via-then-not-has_key+else-not-is_same_as_found w ↦
+      | same::are_same_at_keys-else-not-has_key-via-then-not-has_key+else-not-is_same_at_key w ↦
           let first : has_key (take i ps) p.0 ≡ false =
           subst (λ (k : List ℕ). has_key (take i ps) k ≡ false) c.as_str-key.ensures.value (sym w.if-not-has_key.ensures) in
-          let found : same_answer (Some p.1) (get qs c.as_str-key.result.now) ≡ true =
-          subst (λ (f : Option Value). same_answer (Some p.1) f ≡ true) w.get.ensures (sym w.if-not-is_same_as_found.ensures) in
           let agrees : same_answer (Some p.1) (get qs p.0) ≡ true =
-          subst (λ (k : List ℕ). same_answer (Some p.1) (get qs k) ≡ true) c.as_str-key.ensures.value found in
+          subst (λ (k : List ℕ). same_answer (Some p.1) (get qs k) ≡ true) c.as_str-key.ensures.value (sym w.if-not-is_same_at_key.ensures) in
           one_more ps qs i p within c.index-pairs-i.is c.loop-i.invariant (found_first ps qs i p within c.index-pairs-i.is first ∙ agrees)
       | same::are_same_at_keys-else-not-has_key-via-else-not-has_key w ↦
           let before : has_key (take i ps) p.0 ≡ true =

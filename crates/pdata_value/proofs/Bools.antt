@@ -1,4 +1,4 @@
--- Tests and their parts.
+-- Truths and their parts, and tests on bytes.
 use Rattle.std.proofs.Common.{◌≡◌, ℕ, Bool, true, false, List, refl, arith, cond}
 use Rattle.std.specs.Prelude.{◌&&◌, ◌||◌}
 use Rattle.std.specs.Str.{bytes_eq}
