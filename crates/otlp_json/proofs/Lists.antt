@@ -1,5 +1,7 @@
 -- Reading each element of a list.
-use Rattle.std.proofs.Common.{◌≡◌, ◌∙◌, ◌++◌, [], ◌∷◌, List, Result, Ok, Err, refl, ap, sym, append_assoc, append-nil}
+use Rattle.std.proofs.Common.{◌≡◌, ◌∙◌, ◌++◌, [], ◌∷◌, List, Result, Ok, Err, refl, ap, sym, append_assoc, append-nil, subst}
+use Rattle.std.specs.List.{All}
+use Rattle.std.proofs.lemmas.List.Elements.{All-push}
 use Rattle.json_text.specs.declared.json.Json.{Json}
 use Rattle.otlp_json.specs.declared.error.PayloadKind.{PayloadKind}
 use Rattle.otlp_json.specs.Payload.{Built, ◌>>=◌, each}
@@ -25,3 +27,13 @@ module _ {X : Type 0} (one : Json → Built X) where
 
   pub each-stops : (out : List X) (json : Json) (jsons : List Json) (e : PayloadKind) → one json ≡ Err e → with_front out (each one (json ∷ jsons)) ≡ Err e
   each-stops out json jsons e is = rw is refl
+
+  -- one more element was read and pushed
+  pub each-pushed : (all : Built (List X)) (out new : List X) (json : Json) (rest jsons : List Json) (x : X) → all ≡ with_front out (each one rest)
+      → rest ≡ json ∷ jsons → one json ≡ Ok x → new ≡ out ++ x ∷ [] → all ≡ with_front new (each one jsons)
+  each-pushed all out new json rest jsons x reads first is pushed =
+      reads ∙ (ap (λ (js : List Json). with_front out (each one js)) first ∙ (each-goes out json jsons x is ∙ ap (λ (xs : List X). with_front xs (each one jsons)) (sym pushed)))
+
+-- a list of which each item has a property, and one more such item
+pub All-pushed : {X : Type 0} (P : X → Type 0) (out new : List X) (x : X) → All P out → P x → new ≡ out ++ x ∷ [] → All P new
+All-pushed P out new x before this pushed = subst (All P) (sym pushed) (All-push P out x before this)

@@ -3,6 +3,8 @@ use Rattle.std.proofs.Common.{◌≡◌, ℕ, Bool, List, [], ◌∷◌, codes, 
 use Rattle.std.specs.Prelude.{ℤ}
 use Rattle.pdata_value.specs.declared.values.Values.{Values}
 use Rattle.pdata_value.specs.declared.pairs.Pairs.{Pairs}
+use Rattle.pdata_value.specs.declared.value.Value.{Value, out-Value}
+use Rattle.pdata_value.specs.declared.value.Value.TheOpen.{Value-F}
 use Rattle.pdata_value.specs.declared.value.Value.TheVariants as kinds
 use Rattle.json_text.specs.Writing.{quoted_text}
 use Rattle.otlp_json.specs.Line.{object_text, value_members, value_text, body_layer, body_member, plain_layer, plain_body_layer, IsPlainValue, IsPlainBody}
@@ -87,4 +89,19 @@ pub plain_body-Empty : IsPlainBody kinds.Empty
 unfolding IsPlainBody
 plain_body-Empty = subst plain_body_layer (sym kinds.outs-Empty) tt
 
-pub ruleset plain_values = (plain-Text, plain_body-Text, plain_body-Empty)
+plain_body_of-layer : (layer : Value-F Value Pairs Values) → plain_layer layer → plain_body_layer layer
+plain_body_of-layer (Value-F.Text text) plain = tt
+plain_body_of-layer Value-F.Empty plain = tt
+plain_body_of-layer (Value-F.Truth truth) plain = plain
+plain_body_of-layer (Value-F.Int int) plain = plain
+plain_body_of-layer (Value-F.Double spelling) plain = plain
+plain_body_of-layer (Value-F.Bytes bytes) plain = plain
+plain_body_of-layer (Value-F.List values) plain = plain
+plain_body_of-layer (Value-F.Map map) plain = plain
+
+-- a text may be a body
+pub plain_body_of : (value : Value) → IsPlainValue value → IsPlainBody value
+unfolding IsPlainValue IsPlainBody
+plain_body_of value plain = plain_body_of-layer (out-Value value) plain
+
+pub ruleset plain_values = (plain-Text, plain_body-Text, plain_body-Empty, plain_body_of)

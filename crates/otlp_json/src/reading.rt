@@ -1,6 +1,9 @@
 //! Reads payloads.
 
-ghost use Rattle.std.specs.Prelude.{◌≡◌, ◌≤◌, length};
+ghost use Rattle.std.specs.Prelude.{◌≡◌, ◌≤◌, ℕ, List, IfOk, length};
+ghost use Rattle.std.specs.List.{All};
+ghost use Rattle.otlp_json.specs.Line.{IsPlainValue, IsPlainPairs, IsPlainBody, IsPlainRecord, IsPlainScope, IsPlainResource, IsPlain};
+ghost use Rattle.pdata_value.specs.declared.value.Value.{Value};
 ghost use Rattle.contract_words.specs.Gives.{Gives};
 ghost use Rattle.pdata_value.specs.Value.{pairs};
 ghost use Rattle.otlp_json.specs.Payload as spec;
@@ -20,9 +23,10 @@ const DEPTH: u32 = 300;
 /// At most so many brackets and braces open in a line.
 const OPENING: u32 = 300;
 
-#[tactic(auto, unfolding(crate::specs::Payload::value_in))]
+#[tactic(auto, using(crate::proofs::Values::plain_values), unfolding(crate::specs::Payload::value_in))]
 fn value_of(json: Json) -> Result<Value, PayloadStop>
-    ensures { Gives (λ value. value) kind_of result (value_in json) }
+    ensures value { Gives (λ value. value) kind_of result (value_in json) }
+    ensures plain { IfOk result IsPlainValue }
 {
     let text = text_of(present(one_member(json, "stringValue")?)?)?;
     Ok(Value::Text(text))
@@ -30,7 +34,8 @@ fn value_of(json: Json) -> Result<Value, PayloadStop>
 
 #[tactic(auto, unfolding(crate::specs::Payload::pair_in))]
 fn pair_of(json: Json) -> Result<(Text, Value), PayloadStop>
-    ensures { Gives (λ pair. pair) kind_of result (pair_in json) }
+    ensures value { Gives (λ pair. pair) kind_of result (pair_in json) }
+    ensures plain { IfOk result (λ pair. IsPlainValue pair.1) }
 {
     let slots = two_members(json, "key", "value")?;
     let key = text_of(present(slots.first)?)?;
@@ -39,7 +44,8 @@ fn pair_of(json: Json) -> Result<(Text, Value), PayloadStop>
 }
 
 fn each_pair(alloc: Global, items: Items) -> Result<ItemList<(Text, Value)>, PayloadStop>
-    ensures { Gives (λ list. list) kind_of result (each pair_in items) }
+    ensures value { Gives (λ list. list) kind_of result (each pair_in items) }
+    ensures plain { IfOk result (All (λ (pair : List ℕ × Value). IsPlainValue pair.1)) }
 {
     let mut list = ItemList::new(alloc);
     for json in items.into_vec() {
@@ -53,7 +59,8 @@ fn each_pair(alloc: Global, items: Items) -> Result<ItemList<(Text, Value)>, Pay
 
 #[tactic(auto, unfolding(crate::specs::Payload::pairs_in))]
 fn pairs_of(alloc: Global, slot: Option<Json>) -> Result<Pairs, PayloadStop>
-    ensures { Gives (λ pairs. pairs) kind_of result (pairs_in slot) }
+    ensures value { Gives (λ pairs. pairs) kind_of result (pairs_in slot) }
+    ensures plain { IfOk result IsPlainPairs }
 {
     match slot {
         Some(json) => {
@@ -64,8 +71,10 @@ fn pairs_of(alloc: Global, slot: Option<Json>) -> Result<Pairs, PayloadStop>
     }
 }
 
+#[tactic(auto, using(crate::proofs::Values::plain_values))]
 fn body_of(slot: Option<Json>) -> Result<Value, PayloadStop>
-    ensures { Gives (λ value. value) kind_of result (body_in slot) }
+    ensures value { Gives (λ value. value) kind_of result (body_in slot) }
+    ensures plain { IfOk result IsPlainBody }
 {
     match slot {
         Some(json) => value_of(json),
@@ -75,7 +84,8 @@ fn body_of(slot: Option<Json>) -> Result<Value, PayloadStop>
 
 #[tactic(auto, unfolding(crate::specs::Payload::record_in))]
 fn record_of(alloc: Global, json: Json) -> Result<LogRecord, PayloadStop>
-    ensures { Gives (λ log. log) kind_of result (record_in json) }
+    ensures value { Gives (λ log. log) kind_of result (record_in json) }
+    ensures plain { IfOk result IsPlainRecord }
 {
     let slots = two_members(json, "body", "attributes")?;
     let body = body_of(slots.first)?;
@@ -95,7 +105,8 @@ fn record_of(alloc: Global, json: Json) -> Result<LogRecord, PayloadStop>
 }
 
 fn each_record(alloc: Global, items: Items) -> Result<Logs, PayloadStop>
-    ensures { Gives (λ logs. logs) kind_of result (each record_in items) }
+    ensures value { Gives (λ logs. logs) kind_of result (each record_in items) }
+    ensures plain { IfOk result (All IsPlainRecord) }
 {
     let mut logs = ItemList::new(alloc);
     for json in items.into_vec() {
@@ -108,7 +119,8 @@ fn each_record(alloc: Global, items: Items) -> Result<Logs, PayloadStop>
 }
 
 fn records_of(alloc: Global, slot: Option<Json>) -> Result<Logs, PayloadStop>
-    ensures { Gives (λ logs. logs) kind_of result (list_in record_in slot) }
+    ensures value { Gives (λ logs. logs) kind_of result (list_in record_in slot) }
+    ensures plain { IfOk result (All IsPlainRecord) }
 {
     match slot {
         Some(json) => each_record(alloc, items_of(json)?),
@@ -117,7 +129,8 @@ fn records_of(alloc: Global, slot: Option<Json>) -> Result<Logs, PayloadStop>
 }
 
 fn attributes_of(alloc: Global, slot: Option<Json>) -> Result<Pairs, PayloadStop>
-    ensures { Gives (λ attributes. attributes) kind_of result (attributes_in slot) }
+    ensures value { Gives (λ attributes. attributes) kind_of result (attributes_in slot) }
+    ensures plain { IfOk result IsPlainPairs }
 {
     match slot {
         Some(json) => pairs_of(alloc, one_member(json, "attributes")?),
@@ -127,7 +140,8 @@ fn attributes_of(alloc: Global, slot: Option<Json>) -> Result<Pairs, PayloadStop
 
 #[tactic(auto, unfolding(crate::specs::Payload::scope_in))]
 fn scope_of(alloc: Global, json: Json) -> Result<ScopeTree, PayloadStop>
-    ensures { Gives (λ scope. scope) kind_of result (scope_in json) }
+    ensures value { Gives (λ scope. scope) kind_of result (scope_in json) }
+    ensures plain { IfOk result IsPlainScope }
 {
     let slots = two_members(json, "scope", "logRecords")?;
     let attributes = attributes_of(alloc, slots.first)?;
@@ -143,7 +157,8 @@ fn scope_of(alloc: Global, json: Json) -> Result<ScopeTree, PayloadStop>
 }
 
 fn each_scope(alloc: Global, items: Items) -> Result<Scopes, PayloadStop>
-    ensures { Gives (λ scopes. scopes) kind_of result (each scope_in items) }
+    ensures value { Gives (λ scopes. scopes) kind_of result (each scope_in items) }
+    ensures plain { IfOk result (All IsPlainScope) }
 {
     let mut scopes = ItemList::new(alloc);
     for json in items.into_vec() {
@@ -156,7 +171,8 @@ fn each_scope(alloc: Global, items: Items) -> Result<Scopes, PayloadStop>
 }
 
 fn scopes_of(alloc: Global, slot: Option<Json>) -> Result<Scopes, PayloadStop>
-    ensures { Gives (λ scopes. scopes) kind_of result (list_in scope_in slot) }
+    ensures value { Gives (λ scopes. scopes) kind_of result (list_in scope_in slot) }
+    ensures plain { IfOk result (All IsPlainScope) }
 {
     match slot {
         Some(json) => each_scope(alloc, items_of(json)?),
@@ -166,7 +182,8 @@ fn scopes_of(alloc: Global, slot: Option<Json>) -> Result<Scopes, PayloadStop>
 
 #[tactic(auto, unfolding(crate::specs::Payload::resource_in))]
 fn resource_of(alloc: Global, json: Json) -> Result<ResourceTree, PayloadStop>
-    ensures { Gives (λ resource. resource) kind_of result (resource_in json) }
+    ensures value { Gives (λ resource. resource) kind_of result (resource_in json) }
+    ensures plain { IfOk result IsPlainResource }
 {
     let slots = two_members(json, "resource", "scopeLogs")?;
     let attributes = attributes_of(alloc, slots.first)?;
@@ -180,7 +197,8 @@ fn resource_of(alloc: Global, json: Json) -> Result<ResourceTree, PayloadStop>
 }
 
 fn each_resource(alloc: Global, items: Items) -> Result<Resources, PayloadStop>
-    ensures { Gives (λ resources. resources) kind_of result (each resource_in items) }
+    ensures value { Gives (λ resources. resources) kind_of result (each resource_in items) }
+    ensures plain { IfOk result (All IsPlainResource) }
 {
     let mut resources = ItemList::new(alloc);
     for json in items.into_vec() {
@@ -193,7 +211,8 @@ fn each_resource(alloc: Global, items: Items) -> Result<Resources, PayloadStop>
 }
 
 fn resources_of(alloc: Global, slot: Option<Json>) -> Result<Resources, PayloadStop>
-    ensures { Gives (λ resources. resources) kind_of result (list_in resource_in slot) }
+    ensures value { Gives (λ resources. resources) kind_of result (list_in resource_in slot) }
+    ensures plain { IfOk result (All IsPlainResource) }
 {
     match slot {
         Some(json) => each_resource(alloc, items_of(json)?),
@@ -203,7 +222,8 @@ fn resources_of(alloc: Global, slot: Option<Json>) -> Result<Resources, PayloadS
 
 #[tactic(auto, unfolding(crate::specs::Payload::batch_in))]
 fn batch_of(alloc: Global, json: Json) -> Result<Batch, PayloadStop>
-    ensures { Gives (λ batch. batch) kind_of result (batch_in json) }
+    ensures value { Gives (λ batch. batch) kind_of result (batch_in json) }
+    ensures plain { IfOk result IsPlain }
 {
     let resources = resources_of(alloc, one_member(json, "resourceLogs")?)?;
     Ok(Batch { resources })
@@ -230,7 +250,8 @@ fn is_plain(line: &[u8]) -> bool
 #[tactic(auto, unfolding(crate::specs::Payload::payload))]
 pub fn read_payload(alloc: Global, line: &[u8]) -> Result<Batch, PayloadStop>
     requires { length line.now ≤ 16777216 }
-    ensures { Gives (λ batch. batch) kind_of result (payload line.now) }
+    ensures value { Gives (λ batch. batch) kind_of result (payload line.now) }
+    ensures plain { IfOk result IsPlain }
 {
     if !is_plain(line) {
         return Err(NOT_BUILT);
