@@ -1,21 +1,17 @@
 -- Inside a run of `pass`: what stands between two lines.
-use Rattle.std.specs.Prelude.{◌≡◌, ◌+◌, ◌≤◌, ◌++◌, ◌⊎◌, [], ◌∷◌, Bool, true, false, List, ℕ, Option, Some, None, Result, Ok, Err, codes}
+use Rattle.std.specs.Prelude.{◌≡◌, ◌+◌, ◌≤◌, ◌++◌, ◌⊎◌, [], ◌∷◌, Bool, true, false, List, ℕ, Option, Some, None, Result, Ok, Err}
 use Rattle.contract_words.specs.Causes.{Rose}
 use Rattle.contract_words.specs.Fronts.{IsFront, GrewByFront}
 use Rattle.contract_words.specs.Held.{Held}
 use Rattle.contract_words.specs.InputLines.{Taken}
 use Rattle.collector.specs.Payload.{judged}
 use Rattle.collector.specs.Pass.{lines_in, passes_limit, text_by, note_by, accepted_by, refused_by, pass_text, pass_notes, count_accepted, count_refused}
-use Rattle.collector.specs.declared.payload.PayloadFault.{PayloadFault}
-use Rattle.collector.specs.declared.payload.PayloadFault.TheVariants.{NotBuilt}
-use Rattle.collector.specs.declared.payload.PayloadStop.{PayloadStop}
-use Rattle.collector.specs.declared.payload.PayloadStop.TheVariants as payload_stop
+use Rattle.otlp_json.specs.Names.{fault_name}
+use Rattle.otlp_json.specs.declared.error.PayloadFault.{PayloadFault}
+use Rattle.otlp_json.specs.declared.error.PayloadStop.{PayloadStop}
+use Rattle.otlp_json.specs.declared.error.PayloadStop.TheVariants as payload_stop
 use Rattle.collector.specs.declared.pass.Stop.{Stop}
 use Rattle.collector.specs.declared.pass.Stop.TheVariants.{ReadFault, WriteFault, NoMemory, TooLong}
-
--- the printed name of a fault
-abbrev pub fault_name : PayloadFault → List ℕ
-fault_name NotBuilt = codes "NotBuilt"
 
 -- a line that gave no text: it is refused, or memory ran out; the text stays
 abbrev pub RefusesLine : List ℕ → List ℕ → List ℕ → PayloadStop → Type 0

@@ -1,6 +1,6 @@
 //! `pass`: each accepted payload of an input is written in its one form.
 
-ghost use Rattle.std.specs.Prelude.{◌≡◌, ◌≢◌, ◌+◌, ◌<◌, ◌≤◌, ◌⊎◌, ◌++◌, true, false, [], List, ℕ, OnOk, OnErr, IfErr, IsTrue, Some, codes};
+ghost use Rattle.std.specs.Prelude.{◌≡◌, ◌≢◌, ◌+◌, ◌<◌, ◌≤◌, ◌⊎◌, ◌++◌, true, false, [], List, ℕ, OnOk, OnErr, IfErr, IsTrue, Some, codes, length};
 ghost use Rattle.contract_words.specs.Causes.{Rose, HasCause};
 ghost use Rattle.contract_words.specs.Held.{Held, SameHeld, OthersStay, AddsFront};
 ghost use Rattle.tele_io.specs.Calls.{Adds};
@@ -9,7 +9,8 @@ ghost use Rattle.collector.specs.Pass.{input_of, lines_in, passes_limit, note_by
 ghost use Rattle.collector.specs.Payload.{judged};
 ghost use Rattle.collector.specs.Progress.{Gathers, LineText, LineNote, LineCounts, LineBlames, WriteBlames, Notes, NoteBlames, Blames, LinesEnd};
 
-use crate::payload::{PayloadFault, PayloadStop, rewrite};
+use crate::payload::rewrite;
+use otlp_json::{PayloadFault, PayloadStop};
 use std::alloc::Global;
 use tele_io::{Disk, LineStop, Lines, Sink, append_all, write_all};
 
@@ -141,7 +142,8 @@ impl Progress {
         disk: &mut D,
         notes: &mut N,
     ) -> Result<(), Stop>
-        requires { self.old.accepted + self.old.refused < 1000000 }
+        requires room { self.old.accepted + self.old.refused < 1000000 }
+        requires short { length line.now ≤ 16777216 }
         ensures text { D.tells disk.old → LineText output.now line.now self.old.gathered.items self.new.gathered.items (D.held disk.old) (D.held disk.new) result }
         ensures note { N.tells notes.old → LineNote (self.old.accepted + self.old.refused + 1) line.now (N.held notes.old) (N.held notes.new) result }
         ensures counts { LineCounts line.now self.old.accepted self.new.accepted self.old.refused self.new.refused result }
@@ -153,7 +155,7 @@ impl Progress {
         ensures notes_tell { N.tells notes.old → N.tells notes.new }
         ensures other_count { D.read_faults disk.new ≡ D.read_faults disk.old }
     {
-        match rewrite(line, &mut self.gathered) {
+        match rewrite(alloc, line, &mut self.gathered) {
             Ok(()) => self.accept(output, disk),
             Err(PayloadStop::Fault(fault)) => {
                 self.flush(output, disk)?;

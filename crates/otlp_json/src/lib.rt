@@ -9,4 +9,3 @@ mod writing;
 pub use error::{PayloadFault, PayloadKind, PayloadStop};
 pub use reading::read_payload;
 pub use writing::{push_line, write_line};
-

@@ -106,7 +106,12 @@ fn lone_member(member: (Text, Json), first: &str, second: &str) -> Result<Slots,
 }
 
 // Both members of an object that may have two.
-fn both_members(front: (Text, Json), back: (Text, Json), first: &str, second: &str) -> Result<Slots, PayloadStop>
+fn both_members(
+    front: (Text, Json),
+    back: (Text, Json),
+    first: &str,
+    second: &str,
+) -> Result<Slots, PayloadStop>
     ensures { Gives (λ slots. (slots.first, slots.second)) kind_of result (two_of first.now second.now (front ∷ back ∷ [])) }
 {
     let (front_key, front_value) = front;

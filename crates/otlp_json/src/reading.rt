@@ -13,7 +13,9 @@ use crate::error::{NOT_BUILT, PayloadStop};
 use crate::members::{items_of, one_member, present, text_of, two_members};
 use item_list::ItemList;
 use json_text::{Items, Json, JsonFault, read};
-use pdata_tree::{Batch, LogRecord, Logs, ResourceNode, ResourceTree, Resources, ScopeNode, ScopeTree, Scopes};
+use pdata_tree::{
+    Batch, LogRecord, Logs, ResourceNode, ResourceTree, Resources, ScopeNode, ScopeTree, Scopes,
+};
 use pdata_value::{Pairs, Text, Value};
 use std::alloc::Global;
 

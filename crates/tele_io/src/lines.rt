@@ -1,6 +1,6 @@
 //! The lines of an input that aren't blank, one after another, up to the first that passes a limit.
 
-ghost use Rattle.std.specs.Prelude.{◌≡◌, ℕ, List, Option, IsTrue, IsSome, IfOk, OnOk};
+ghost use Rattle.std.specs.Prelude.{◌≡◌, ◌≤◌, ℕ, List, length, Option, IsTrue, IsSome, IfOk, IfSome, OnOk};
 ghost use Rattle.contract_words.specs.Held.{SameHeld};
 ghost use Rattle.tele_io.specs.Mark.{IsAhead};
 ghost use Rattle.tele_io.specs.Reading.{Progress, start_of, Takes, Advances, FaultRose, Keeps};
@@ -64,6 +64,7 @@ impl Lines {
         ensures name { self.new.mark.name ≡ self.old.mark.name }
         ensures live { Keeps self.new.live result }
         ensures counts { Advances self.old.mark.count self.new.mark.count result }
+        ensures short { IfOk result (λ found. IfSome found (λ line. length line.items ≤ 16777216)) }
         // When a fault comes.
         ensures cause { FaultRose (D.read_faults disk.old) (D.read_faults disk.new) result }
         // What stays.

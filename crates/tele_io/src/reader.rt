@@ -1,6 +1,6 @@
 //! Cutting lines out of what is read ahead.
 
-ghost use Rattle.std.specs.Prelude.{◌≡◌, ◌+◌, ◌++◌, ◌≤◌, ◌<◌, ◌^◌, ◌==◌, ℕ, List, [], IsSome, IfOk, OnOk, OnErr, length, take, drop, string_bytes};
+ghost use Rattle.std.specs.Prelude.{◌≡◌, ◌+◌, ◌++◌, ◌≤◌, ◌<◌, ◌^◌, ◌==◌, ℕ, List, [], IsSome, IfOk, IfSome, OnOk, OnErr, length, take, drop, string_bytes};
 ghost use Rattle.contract_words.specs.Causes.{HasCause};
 ghost use Rattle.contract_words.specs.Held.{SameHeld, rest_from};
 ghost use Rattle.tele_io.specs.Mark.{Mark, SameLines, IsAhead};
@@ -125,7 +125,8 @@ impl Reader {
 
     // Lets the line that is begun go by, with the newline that stands ahead; None where nothing is begun or ahead.
     fn finish(&mut self) -> Result<Option<Vec<u8>>, LineStop>
-        ensures { Finishes self.old self.new result }
+        ensures ends { Finishes self.old self.new result }
+        ensures short { IfOk result (λ found. IfSome found (λ line. length line.items ≤ 16777216)) }
     {
         if self.begun.is_empty() && self.ahead.is_empty() {
             return Ok(None);
@@ -146,6 +147,7 @@ impl Reader {
 
     /// The next line, blank or not.
     pub fn read_line<D: Disk>(&mut self, disk: &mut D) -> Result<Option<Vec<u8>>, LineStop>
+        ensures short { IfOk result (λ found. IfSome found (λ line. length line.items ≤ 16777216)) }
         ensures name { self.new.name ≡ self.old.name }
         ensures counts { Counts self.old.count self.new.count result }
         ensures next { D.tells disk.old → IsAhead (D.held disk.old self.old.name) self.old → NextLine (D.held disk.old self.old.name) self.old self.new result }
@@ -176,6 +178,7 @@ impl Reader {
 
     /// The next line that isn't blank.
     pub fn next_line<D: Disk>(&mut self, disk: &mut D) -> Result<Option<Vec<u8>>, LineStop>
+        ensures short { IfOk result (λ found. IfSome found (λ line. length line.items ≤ 16777216)) }
         ensures name { self.new.name ≡ self.old.name }
         ensures counts { Advances self.old.count self.new.count result }
         ensures next { D.tells disk.old → IsAhead (D.held disk.old self.old.name) self.old → Takes (D.held disk.old self.old.name) self.old self.new result }

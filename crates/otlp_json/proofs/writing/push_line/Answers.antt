@@ -12,5 +12,5 @@ returns c =
     let old = c.args.out.now.items in
     let texts = map resource_text c.args.batch.now.resources in
     three_pushed old (codes "{\"resourceLogs\":[") (listed_from 0 texts) (codes "]}") _ _ _
-      c.in_ok-extend_from_slice.ensures.items (rw c.as_slice.ensures at c.in_ok-push_resources.ensures) c.in_ok-extend_from_slice-2.ensures.items
+    c.in_ok-extend_from_slice.ensures.items (rw c.as_slice.ensures at c.in_ok-push_resources.ensures) c.in_ok-extend_from_slice-2.ensures.items
     ∙ ap (λ (l : List ℕ). old ++ l) (sym (object-list (codes "resourceLogs") texts))

@@ -10,5 +10,5 @@ pub returns : goal.returns
 returns c =
     let old = c.args.out.now.items in
     three_pushed old (codes ",\"logRecords\":[") (listed_from 0 (map record_text c.args.logs.now)) (codes "]") _ _ _
-      c.in_ok-extend_from_slice.ensures.items c.in_ok-push_records.ensures c.in_ok-push.ensures.items
+    c.in_ok-extend_from_slice.ensures.items c.in_ok-push_records.ensures c.in_ok-push.ensures.items
     ∙ ap (λ (l : List ℕ). old ++ l) (sym (list-member record_text 1 (codes "logRecords") c.args.logs.now (sym c.is_empty.ensures ∙ c.if-is_empty.false)))

@@ -10,5 +10,5 @@ pub returns : goal.returns
 returns c =
     let old = c.args.out.now.items in
     three_pushed old (codes ",\"scopeLogs\":[") (listed_from 0 (map scope_text c.args.scopes.now)) (codes "]") _ _ _
-      c.in_ok-extend_from_slice.ensures.items c.in_ok-push_scopes.ensures c.in_ok-push.ensures.items
+    c.in_ok-extend_from_slice.ensures.items c.in_ok-push_scopes.ensures c.in_ok-push.ensures.items
     ∙ ap (λ (l : List ℕ). old ++ l) (sym (list-member scope_text 1 (codes "scopeLogs") c.args.scopes.now (sym c.is_empty.ensures ∙ c.if-is_empty.false)))

@@ -23,7 +23,7 @@ returns-then-not-is_used_up-clause-next g c = λ tells ahead.
     let now = moved file c.pieces.self c.cut.new.self c.cut.ensures.same c.cut.ensures.bytes (inv.ahead tells ahead) in
     let end : c.cut.new.self.ahead ≡ [] → rest_from file (c.cut.new.self.gone + length c.cut.new.self.begun) ≡ [] = λ none. absurd (not_empty c.cut.new.self.ahead c.if-not-is_used_up.ensures none) in
     since file c.args.self.now c.cut.new.self c.finish.new.self c.finish.result (same_trans c.args.self.now c.pieces.self c.cut.new.self inv.same c.cut.ensures.same)
-    (finished file c.cut.new.self c.finish.new.self c.finish.result c.cut.ensures.unbroken c.cut.ensures.short c.in-Ok.ensures.answer end now c.finish.ensures).0
+    (finished file c.cut.new.self c.finish.new.self c.finish.result c.cut.ensures.unbroken c.cut.ensures.short c.in-Ok.ensures.answer end now c.finish.ensures.ends).0
 
 pub returns-then-not-is_used_up-clause-again : goal.returns-then-not-is_used_up-clause-again
 returns-then-not-is_used_up-clause-again g c = λ tells ahead.
@@ -31,7 +31,7 @@ returns-then-not-is_used_up-clause-again g c = λ tells ahead.
     let file = g.D.Disk.held c.args.disk.now c.args.self.now.name in
     let now = moved file c.pieces.self c.cut.new.self c.cut.ensures.same c.cut.ensures.bytes (inv.ahead tells ahead) in
     let end : c.cut.new.self.ahead ≡ [] → rest_from file (c.cut.new.self.gone + length c.cut.new.self.begun) ≡ [] = λ none. absurd (not_empty c.cut.new.self.ahead c.if-not-is_used_up.ensures none) in
-    (finished file c.cut.new.self c.finish.new.self c.finish.result c.cut.ensures.unbroken c.cut.ensures.short c.in-Ok.ensures.answer end now c.finish.ensures).1
+    (finished file c.cut.new.self c.finish.new.self c.finish.result c.cut.ensures.unbroken c.cut.ensures.short c.in-Ok.ensures.answer end now c.finish.ensures.ends).1
 
 pub returns-then-is_used_up-clause-next : goal.returns-then-is_used_up-clause-next
 returns-then-is_used_up-clause-next g c = λ tells ahead.
@@ -46,4 +46,4 @@ returns-then-is_used_up-clause-next g c = λ tells ahead.
     let end : full.ahead ≡ [] → rest_from file (full.gone + length full.begun) ≡ [] = λ none.
     rw (by.same.gone, by.begun) (subst (λ (f : Option (List ℕ)). rest_from f (cut.gone + length cut.begun) ≡ []) same_file (by.end (inv.tells tells) none)) in
     since file c.args.self.now full c.finish-then-is_used_up.new.self c.finish-then-is_used_up.result (same_trans c.args.self.now cut full (same_trans c.args.self.now c.pieces.self cut inv.same c.cut.ensures.same) by.same)
-    (finished file full c.finish-then-is_used_up.new.self c.finish-then-is_used_up.result (rw by.begun c.cut.ensures.unbroken) (rw by.begun c.cut.ensures.short) (empty_broken full.ahead c.if-is_used_up.ensures) end then c.finish-then-is_used_up.ensures).0
+    (finished file full c.finish-then-is_used_up.new.self c.finish-then-is_used_up.result (rw by.begun c.cut.ensures.unbroken) (rw by.begun c.cut.ensures.short) (empty_broken full.ahead c.if-is_used_up.ensures) end then c.finish-then-is_used_up.ensures.ends).0
