@@ -3,3 +3,12 @@ pub mod Numerals
 pub mod Turns
 pub mod Values
 pub mod Written
+pub mod Runs
+pub mod Parts
+pub mod NumberParts
+pub mod TextParts
+pub mod ValueParts
+pub mod Whole
+pub mod Fitting
+pub mod Law
+pub mod Numbers

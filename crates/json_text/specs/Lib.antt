@@ -2,5 +2,6 @@
 pub mod Place
 pub mod Reading
 pub mod Writing
+pub mod Grammar
 -- Inside this crate: what stands between two places.
 pub mod Spelled

@@ -5,6 +5,7 @@ mod cursor;
 mod error;
 mod escape;
 mod json;
+mod laws;
 mod number;
 mod reader;
 mod scan;
@@ -13,5 +14,9 @@ mod writer;
 
 pub use error::JsonFault;
 pub use json::{Items, Json, JsonKind, Members};
+pub use laws::reading_is_the_grammar;
 pub use reader::read;
 pub use writer::{push_comma_before, push_json, push_text, write};
+
+#[cfg(test)]
+mod tests;

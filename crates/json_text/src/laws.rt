@@ -1,0 +1,25 @@
+//! Laws on reading and writing.
+
+ghost use Rattle.std.specs.Prelude.{◌≡◌, ◌<◌, ◌≤◌, ℕ, List, IsOk, Ok, Err};
+ghost use Rattle.std.specs.Str.{IsUtf8};
+ghost use Rattle.contract_words.specs.Grammar.{spells};
+ghost use Rattle.json_text.specs.Grammar.{json, IsLongestViable};
+ghost use Rattle.json_text.specs.Reading.{json_text};
+ghost use Rattle.json_text.specs.declared.json.Json.{Json};
+ghost use Rattle.json_text.specs.declared.error.JsonFault.TheVariants.{BadJson, TooDeep};
+
+/// Reading is the grammar.
+pub fn reading_is_the_grammar()
+    // What is read is spelled so, and what is spelled so is read.
+    ensures read_is_spelled { (bytes : List ℕ) (depth : ℕ) (value : Json) → json_text bytes depth ≡ Ok value → spells (json depth) bytes }
+    ensures spelled_is_read { (bytes : List ℕ) (depth : ℕ) → IsUtf8 bytes → spells (json depth) bytes → IsOk (json_text bytes depth) }
+
+    // BadJson stands at the end of the longest viable prefix, also of a grammar that nests deeper. TooDeep stands there of
+    // the grammar that nests as deep as allowed, and a deeper one goes on.
+    ensures bad_json { (bytes : List ℕ) (depth at deeper : ℕ) → json_text bytes depth ≡ Err (BadJson at) → depth ≤ deeper
+        → IsLongestViable (json deeper) bytes at }
+    ensures too_deep { (bytes : List ℕ) (depth at : ℕ) → json_text bytes depth ≡ Err (TooDeep at)
+        → IsLongestViable (json depth) bytes at }
+    ensures deeper_goes_on { (bytes : List ℕ) (depth at deeper : ℕ) → json_text bytes depth ≡ Err (TooDeep at) → depth < deeper
+        → (count : ℕ) × (at < count) × IsLongestViable (json deeper) bytes count }
+{}
