@@ -7,7 +7,7 @@ use Rattle.std.proofs.lemmas.List.{length-take-le}
 use Rattle.std.proofs.Math.Seq.{take-append_seam}
 use Rattle.ottl_lex.specs.Numbers.{are_digits, value_in, numeral}
 use Rattle.ottl_lex.specs.Quoted.{Escape, one_byte, one_character, is_character, letters, byte_beside, letter_escape, escape_at}
-use Rattle.ottl_lex.proofs.Tests.{and_left, and_right}
+use Rattle.ottl_lex.proofs.Sides.{and_left, and_right}
 use Rattle.ottl_lex.specs.Table.{Each, AreDigits, Piece, plain, letter, hex, octal, short, long, spelling, meaning, IsPiece}
 
 digits-each : (base : ℕ) (ds : List ℕ) → are_digits base ds ≡ true → Each (λ b. nat_lt (digit_value b) base) ds

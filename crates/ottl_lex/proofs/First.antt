@@ -8,7 +8,7 @@ use Rattle.std.proofs.lemmas.Bool.Decides.{nat_tests}
 use Rattle.std.proofs.lemmas.Slice.Eq.{bytes_eq-Decides}
 use Rattle.std.proofs.lemmas.List.{take-append-drop}
 use Rattle.ottl_lex.specs.Tokens.{in_lower, in_upper, is_one_of, is_name_of, keywords, is_keyword, is_sign, before_equals}
-use Rattle.ottl_lex.proofs.Tests.{and_left, and_right}
+use Rattle.ottl_lex.proofs.Sides.{and_left, and_right}
 use Rattle.ottl_lex.specs.Table.{Each, IsName, IsText, IsLiteral, IsSign, IsToken}
 use Rattle.ottl_lex.specs.declared.token.TokenKind.{TokenKind}
 use Rattle.ottl_lex.specs.declared.token.TokenKind.TheVariants.{Lower, Word, Upper, Quoted, Digits, Hex, Sign}
