@@ -1,10 +1,10 @@
 -- Where a text closes, piece by piece.
-use Rattle.std.proofs.Common.{◌≡◌, ◌≢◌, ◌∙◌, ℕ, zero, suc, ◌+◌, ◌≤◌, ◌<◌, List, [], ◌∷◌, ◌++◌, length, take, drop, Bool, true, false, refl, sym, ap, subst, arith, append_assoc, length-append}
+use Rattle.std.proofs.Common.{◌≡◌, ◌≢◌, ◌∙◌, ℕ, suc, ◌+◌, ◌≤◌, List, [], ◌∷◌, ◌++◌, length, take, drop, Bool, true, false, refl, sym, ap, subst, arith, append_assoc, length-append}
 use Rattle.std.specs.Prelude.{Option, Some, None, option_map, cond, ◌==◌, nat_lt}
 use Rattle.std.specs.Char.{digit_value}
 use Rattle.std.proofs.lemmas.Bool.Decides.{nat_tests}
 use Rattle.ottl_lex.specs.Quoted.{one_more, closing, letter_escape}
-use Rattle.ottl_lex.specs.Table.{Each, AreDigits, Piece, plain, letter, hex, octal, short, long, spelling, IsPiece, spelled, ArePieces}
+use Rattle.ottl_lex.specs.Table.{Each, Piece, plain, letter, hex, octal, short, long, spelling, IsPiece, spelled, ArePieces}
 
 -- so many bytes further
 abbrev pub plus : ℕ → Option ℕ → Option ℕ

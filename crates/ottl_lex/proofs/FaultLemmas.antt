@@ -1,9 +1,9 @@
 -- A fault is right for the text where it stands.
-use Rattle.std.proofs.Common.{◌≡◌, ◌≢◌, ◌∙◌, ℕ, zero, suc, ◌+◌, ◌-◌, ◌%◌, ◌≤◌, ◌<◌, List, [], ◌∷◌, ◌++◌, length, take, drop, Bool, true, false, refl, sym, ap, subst, arith, append_assoc, length-append, length-drop, length-take, ◌⊎◌, inl, inr}
+use Rattle.std.proofs.Common.{◌≡◌, ◌≢◌, ◌∙◌, ℕ, zero, suc, ◌+◌, ◌%◌, ◌≤◌, ◌<◌, List, [], ◌∷◌, ◌++◌, length, take, drop, Bool, true, false, refl, sym, ap, subst, arith, append_assoc, length-append, inl, inr}
 use Rattle.std.specs.Prelude.{Option, Some, None, Result, Ok, Err, cond, ◌==◌, ◌&&◌, nat_lt}
 use Rattle.std.specs.Char.{is_ascii_digit, is_ascii_hexdigit, is_ascii_lowercase, is_ascii_uppercase}
 use Rattle.std.specs.List.{prefix_len}
-use Rattle.std.specs.Str.{IsUtf8, is_utf8}
+use Rattle.std.specs.Str.{is_utf8}
 use Rattle.std.proofs.lemmas.Bool.Decides.{nat_tests}
 use Rattle.std.proofs.lemmas.List.{take-append-drop, take-append-le}
 use Rattle.std.proofs.lemmas.List.Folds.{length-prefix_len}
@@ -12,19 +12,17 @@ use Rattle.std.proofs.Math.Seq.{take-append_seam}
 use Rattle.ottl_lex.specs.declared.fault.SyntaxFault.{SyntaxFault}
 use Rattle.ottl_lex.specs.declared.fault.SyntaxKind.{SyntaxKind}
 use Rattle.ottl_lex.specs.declared.fault.SyntaxKind.TheVariants.{BadChar, OpenText, BadEscape, NotUtf8, Fraction, BadNumber}
-use Rattle.ottl_lex.specs.declared.token.Token.{Token}
-use Rattle.ottl_lex.specs.declared.token.TokenKind.{TokenKind}
 use Rattle.ottl_lex.specs.declared.token.TokenKind.TheVariants.{Quoted, Digits, Hex, Sign, Upper}
-use Rattle.ottl_lex.specs.Quoted.{fault, ◌>>=◌, with_front, one_more, closing, escape_at, escaped, unescaped, as_utf8, contents}
+use Rattle.ottl_lex.specs.Quoted.{fault, ◌>>=◌, with_front, one_more, closing, escape_at, escaped, unescaped, as_utf8}
 use Rattle.ottl_lex.specs.Tokens.{in_upper, in_word, is_sign, before_equals, equals_first, digit_first, hex_first, token, lower_at, hex_at, digits_before, number_at, quoted_at, sign_at, token_at}
-use Rattle.ottl_lex.specs.Table.{Each, IsName, Piece, plain, letter, hex, octal, short, long, spelling, meaning, IsPiece, spelled, meant, ArePieces, IsText, IsLiteral, IsSign, IsToken, HasNoToken}
-use Rattle.ottl_lex.specs.Faults.{HasQuote, Scanned, bare, slashed, scanned, AreScanned, IsClosed, HasBadEscape, HasNotUtf8, HasFraction, HasRunOn, HasOddLiteral, FaultStands}
+use Rattle.ottl_lex.specs.Table.{IsName, Piece, plain, letter, hex, octal, short, long, spelling, meaning, IsPiece, spelled, meant, ArePieces, IsSign, HasNoToken}
+use Rattle.ottl_lex.specs.Faults.{Scanned, bare, slashed, scanned, AreScanned, IsClosed, FaultStands}
 use Rattle.ottl_lex.proofs.Sides.{and_left, and_right}
 use Rattle.ottl_lex.proofs.First.{each-front, token-some, quote-only, other-only}
-use Rattle.ottl_lex.proofs.Closes.{plus, closing-plain, closing-slash, closing-piece, closing-splits, plus-zero, more-plus}
+use Rattle.ottl_lex.proofs.Closes.{plus, closing-plain, closing-slash, closing-piece, closing-splits}
 use Rattle.ottl_lex.proofs.EscapeLemmas.{escape-is, escape-of}
-use Rattle.ottl_lex.proofs.Texts.{WasRead, read-pieces, text-read, was-plus, closes-further, escape-passed}
-use Rattle.ottl_lex.proofs.Stands.{front-first, begins-hex, literal-first, literal-longest, equals-is, IsRest, name-slice}
+use Rattle.ottl_lex.proofs.Texts.{WasRead, read-pieces, closes-inside, text-read, was-plus, closes-further, escape-passed}
+use Rattle.ottl_lex.proofs.Stands.{front-first, begins-hex, literal-first, literal-longest, IsRest, name-slice}
 
 -- a fault that was found is the one that stands
 same-fault : (at place : ℕ) (text : List ℕ) (kind : SyntaxKind) (f : SyntaxFault) → fault kind at ≡ f → FaultStands kind at place text → FaultStands f.kind f.at place text
@@ -167,7 +165,7 @@ no-piece rest behind none closes p more is same =
     let inner : tail.0 ++ more ≡ rest ++ 34 ∷ behind = cc in
     let front = front-of tail.0 more rest (34 ∷ behind) inner room in
     let found = escape-of p tail.0 (drop (length tail.0) rest) is tail.1 in
-    let wrong : None ≡ Some (meaning p, length tail.0) = sym none ∙ ap escape_at front ∙ found in
+    let same : escape_at rest ≡ Some (meaning p, length tail.0) = ap escape_at front ∙ found in
     cc
 
 module _ (b : ℕ) (rest : List ℕ) (at : ℕ) (behind : List ℕ) (f : SyntaxFault) (closes : closing false (b ∷ rest ++ 34 ∷ behind) ≡ Some (suc (length rest))) (reads : ReadsBad rest) where
@@ -223,60 +221,71 @@ read-bad (b ∷ rest) (suc n) at behind f is closes =
     subst P (omega arith) (read-bad rest n (at + 1) behind f is closes)
 read-bad (b ∷ rest) zero at behind f is closes = bad-by b rest at behind f (b == 92) refl is closes (read-bad rest)
 
+-- a backslash that begins no piece
+bad-stands : (at : ℕ) (others inside behind : List ℕ) (f : SyntaxFault) → HasNoToken (34 ∷ others) → IsClosed (34 ∷ others) → others ≡ inside ++ 34 ∷ behind
+    → WasBad inside behind (at + 1 + 0) f → FaultStands f.kind f.at at (34 ∷ others)
+bad-stands at others inside behind f none closed split bad =
+    let inner : others ≡ spelled bad.pieces ++ 92 ∷ (bad.rest ++ 34 ∷ behind) =
+    split ∙ ap (λ xs. xs ++ 34 ∷ behind) bad.whole ∙ append_assoc (spelled bad.pieces) (92 ∷ bad.rest) (34 ∷ behind) in
+    same-fault (at + 1 + 0 + length (spelled bad.pieces)) at (34 ∷ others) BadEscape f bad.is (
+      none,
+      closed,
+      record {
+        pieces = bad.pieces;
+        behind = bad.rest ++ 34 ∷ behind;
+        are = bad.are;
+        whole = ap (λ xs. 34 ∷ xs) inner;
+        placed = omega arith;
+        none = bad.none;
+      },
+    )
+
+-- pieces that aren't UTF-8
+wrong-stands : (at : ℕ) (others inside behind bytes : List ℕ) → HasNoToken (34 ∷ others) → others ≡ inside ++ 34 ∷ behind
+    → WasRead inside bytes → is_utf8 bytes ≡ false → FaultStands NotUtf8 at at (34 ∷ others)
+wrong-stands at others inside behind bytes none split was test =
+    let inner : others ≡ spelled was.pieces ++ 34 ∷ behind = split ∙ ap (λ xs. xs ++ 34 ∷ behind) (sym was.whole) in (
+      refl,
+      none,
+      record {
+        pieces = was.pieces;
+        behind = behind;
+        are = was.are;
+        whole = ap (λ xs. 34 ∷ xs) inner;
+        wrong = λ utf8.
+            let yes = is_utf8-from_IsUtf8 (meant was.pieces) utf8 in
+            let both : true ≡ false = sym yes ∙ ap is_utf8 was.means ∙ test in
+            absurd (cc);
+      },
+    )
+
 -- the fault of a text
 module _ (at : ℕ) (others : List ℕ) (f : SyntaxFault) (is : quoted_at at (closing false others) others ≡ Err f) where
-  text-fault : (n : ℕ) → closing false others ≡ Some n → (read : Result (List ℕ) SyntaxFault) → unescaped 0 (at + 1) (take n others) ≡ read
+  text-fault : (n : ℕ) (found : closing false others ≡ Some n) (split : others ≡ take n others ++ 34 ∷ drop (suc n) others)
+      → closing false (take n others ++ 34 ∷ drop (suc n) others) ≡ Some (length (take n others))
+      → (read : Result (List ℕ) SyntaxFault) → unescaped 0 (at + 1) (take n others) ≡ read
       → ((read >>= as_utf8 at) >>= λ _. Ok (token Quoted at (2 + n))) ≡ Err f → FaultStands f.kind f.at at (34 ∷ others)
-  text-fault n found (Err e) read wrong =
+  text-fault n found split closes (Err e) read wrong =
       let same : e ≡ f = cc in
-      let split = closing-splits false others n found in
-      let within : length (take n others) ≡ n = omega (arith, ap length split, length-append (take n others) (34 ∷ drop (suc n) others), length-take n others) in
-      let closes : closing false (take n others ++ 34 ∷ drop (suc n) others) ≡ Some (length (take n others)) = ap (closing false) (sym split) ∙ found ∙ ap Some (sym within) in
-      let bad = read-bad (take n others) 0 (at + 1) (drop (suc n) others) e read closes in
-      let whole : 34 ∷ others ≡ 34 ∷ spelled bad.pieces ++ 92 ∷ (bad.rest ++ 34 ∷ drop (suc n) others) =
-      ap (λ xs. 34 ∷ xs) (split ∙ ap (λ xs. xs ++ 34 ∷ drop (suc n) others) bad.whole ∙ append_assoc (spelled bad.pieces) (92 ∷ bad.rest) (34 ∷ drop (suc n) others)) in
-      same-fault (at + 1 + 0 + length (spelled bad.pieces)) at (34 ∷ others) BadEscape f (bad.is ∙ same) (
-        quoted-none at others f is,
-        closed-of others n found,
-        record {
-          pieces = bad.pieces;
-          behind = bad.rest ++ 34 ∷ drop (suc n) others;
-          are = bad.are;
-          whole = whole;
-          placed = omega arith;
-          none = bad.none;
-        },
-      )
-  text-fault n found (Ok bytes) read wrong = by_utf8 (is_utf8 bytes) refl where
+      let P : SyntaxFault → Type 0 = λ g. FaultStands g.kind g.at at (34 ∷ others) in
+      subst P same (bad-stands at others (take n others) (drop (suc n) others) e (quoted-none at others f is) (closed-of others n found) split
+      (read-bad (take n others) 0 (at + 1) (drop (suc n) others) e read closes))
+  text-fault n found split closes (Ok bytes) read wrong = by_utf8 (is_utf8 bytes) refl where
     by_utf8 : (test : Bool) → is_utf8 bytes ≡ test → FaultStands f.kind f.at at (34 ∷ others)
     by_utf8 true test = absurd (let ok : Ok (token Quoted at (2 + n)) ≡ Err f = rw test at wrong in cc)
     by_utf8 false test =
         let failed : Err (fault NotUtf8 at) ≡ Err f = rw test at wrong in
         let same : fault NotUtf8 at ≡ f = cc in
-        let split = closing-splits false others n found in
-        let within : length (take n others) ≡ n = omega (arith, ap length split, length-append (take n others) (34 ∷ drop (suc n) others), length-take n others) in
-        let closes : closing false (take n others ++ 34 ∷ drop (suc n) others) ≡ Some (length (take n others)) = ap (closing false) (sym split) ∙ found ∙ ap Some (sym within) in
-        let was = read-pieces (take n others) 0 (at + 1) (drop (suc n) others) bytes read closes in
-        same-fault at at (34 ∷ others) NotUtf8 f same (
-          refl,
-          quoted-none at others f is,
-          record {
-            pieces = was.pieces;
-            behind = drop (suc n) others;
-            are = was.are;
-            whole = ap (λ xs. 34 ∷ xs) (split ∙ ap (λ xs. xs ++ 34 ∷ drop (suc n) others) (sym was.whole));
-            wrong = λ utf8.
-                let yes = is_utf8-from_IsUtf8 (meant was.pieces) utf8 in
-                let both : true ≡ false = sym yes ∙ ap is_utf8 was.means ∙ test in
-                absurd (cc);
-          },
-        )
+        same-fault at at (34 ∷ others) NotUtf8 f same (wrong-stands at others (take n others) (drop (suc n) others) bytes (quoted-none at others f is) split
+        (read-pieces (take n others) 0 (at + 1) (drop (suc n) others) bytes read closes) test)
 
   text-by : (found : Option ℕ) → closing false others ≡ found → quoted_at at found others ≡ Err f → FaultStands f.kind f.at at (34 ∷ others)
   text-by None found wrong =
       let same : fault OpenText at ≡ f = cc in
       same-fault at at (34 ∷ others) OpenText f same (refl, quoted-none at others f is, (others, refl), open-of others found)
-  text-by (Some n) found wrong = text-fault n found (unescaped 0 (at + 1) (take n others)) refl wrong
+  text-by (Some n) found wrong =
+      let split = closing-splits false others n found in
+      text-fault n found split (closes-inside others n found split) (unescaped 0 (at + 1) (take n others)) refl wrong
 
   quoted-fault : FaultStands f.kind f.at at (34 ∷ others)
   quoted-fault = text-by (closing false others) refl is

@@ -1,12 +1,12 @@
 -- Tokens and blanks, one after another.
-use Rattle.std.proofs.Common.{◌≡◌, ◌∙◌, ℕ, zero, suc, ◌+◌, ◌-◌, ◌≤◌, ◌<◌, List, [], ◌∷◌, ◌++◌, length, drop, Bool, true, false, refl, sym, ap, subst, arith, length-append, length-drop}
+use Rattle.std.proofs.Common.{◌≡◌, ℕ, zero, suc, ◌+◌, ◌-◌, ◌≤◌, List, [], ◌∷◌, length, drop, Bool, true, false, refl, sym, ap, subst, arith}
 use Rattle.std.specs.Prelude.{Result, Ok, Err, cond}
 use Rattle.ottl_lex.specs.declared.fault.SyntaxFault.{SyntaxFault}
 use Rattle.ottl_lex.specs.declared.token.Token.{Token}
 use Rattle.ottl_lex.specs.Quoted.{◌>>=◌, with_front}
 use Rattle.ottl_lex.specs.Tokens.{is_blank, token_at, tokens_from, tokens_of}
-use Rattle.ottl_lex.specs.Table.{Each, IsLongest, AreBlanks, AreTokens, TokensAreLongest}
-use Rattle.ottl_lex.specs.Faults.{FaultStands, StopsAt, FaultsStand}
+use Rattle.ottl_lex.specs.Table.{AreBlanks, AreTokens, TokensAreLongest}
+use Rattle.ottl_lex.specs.Faults.{StopsAt, FaultsStand}
 use Rattle.ottl_lex.proofs.FaultLemmas.{fault-stands}
 use Rattle.ottl_lex.proofs.Stands.{StandsAt, token-stands}
 
@@ -96,6 +96,7 @@ goes-on (b ∷ rest) zero at end ends within =
     subst P (omega arith) (goes-by b rest at end ends (goes-on rest) (is_blank b) refl)
 
 pub tokens_are_longest : TokensAreLongest
+unfolding tokens_of
 tokens_are_longest text tokens is =
     let right = goes-on text 0 0 (length text) (omega arith) (omega arith) in
     let P : Result (List Token) SyntaxFault → Type 0 = λ read. Right (length text) 0 text read in
@@ -103,6 +104,7 @@ tokens_are_longest text tokens is =
     subst P is (subst Q (omega arith) right)
 
 pub faults_stand : FaultsStand
+unfolding tokens_of
 faults_stand text fault is =
     let right = goes-on text 0 0 (length text) (omega arith) (omega arith) in
     let P : Result (List Token) SyntaxFault → Type 0 = λ read. Right (length text) 0 text read in

@@ -1,22 +1,21 @@
 -- The token that is read at a place is the longest of the table.
-use Rattle.std.proofs.Common.{◌≡◌, ◌≢◌, ◌∙◌, ℕ, zero, suc, ◌+◌, ◌-◌, ◌%◌, ◌≤◌, ◌<◌, List, [], ◌∷◌, ◌++◌, length, take, drop, Bool, true, false, refl, sym, ap, subst, arith, append_assoc, length-append, length-drop, length-take, ◌⊎◌, inl, inr}
-use Rattle.std.specs.Prelude.{Option, Some, None, Result, Ok, Err, cond, ◌==◌, ◌&&◌, nat_lt}
+use Rattle.std.proofs.Common.{◌≡◌, ◌∙◌, ℕ, suc, ◌+◌, ◌-◌, ◌%◌, ◌≤◌, ◌<◌, List, [], ◌∷◌, ◌++◌, length, take, drop, Bool, true, false, refl, sym, ap, subst, arith, length-append, ◌⊎◌, inl, inr}
+use Rattle.std.specs.Prelude.{Ok, Err, cond, ◌==◌, ◌&&◌, nat_lt}
 use Rattle.std.specs.Char.{is_ascii_digit, is_ascii_hexdigit, is_ascii_lowercase, is_ascii_uppercase}
 use Rattle.std.specs.List.{prefix_len}
 use Rattle.std.proofs.lemmas.Bool.Decides.{nat_tests}
 use Rattle.std.proofs.lemmas.List.{take-append-drop}
 use Rattle.std.proofs.lemmas.List.Folds.{length-prefix_len}
-use Rattle.ottl_lex.specs.declared.fault.SyntaxFault.{SyntaxFault}
 use Rattle.ottl_lex.specs.declared.fault.SyntaxKind.TheVariants.{BadChar, Fraction, BadNumber}
 use Rattle.ottl_lex.specs.declared.token.Token.{Token}
 use Rattle.ottl_lex.specs.declared.token.TokenKind.{TokenKind}
 use Rattle.ottl_lex.specs.declared.token.TokenKind.TheVariants.{Lower, Word, Upper, Quoted, Digits, Hex, Sign}
-use Rattle.ottl_lex.specs.Quoted.{fault, ◌>>=◌, closing}
+use Rattle.ottl_lex.specs.Quoted.{fault, closing}
 use Rattle.ottl_lex.specs.Tokens.{in_lower, in_upper, in_word, is_keyword, is_sign, before_equals, equals_first, digit_first, hex_first, token, lower_at, hex_at, digits_before, number_at, quoted_at, sign_at, token_at}
-use Rattle.ottl_lex.specs.Table.{Each, IsName, IsText, IsLiteral, IsSign, IsToken, IsLongest}
+use Rattle.ottl_lex.specs.Table.{Each, IsName, IsLiteral, IsSign, IsToken, IsLongest}
 use Rattle.ottl_lex.proofs.First.{each-le, each-front, lower-in_lower, upper-in_upper, token-some, lower-only, upper-only, digit-only, quote-only, other-only}
 use Rattle.ottl_lex.proofs.Sides.{and_left, and_right}
-use Rattle.ottl_lex.proofs.Texts.{WasText, was-text, text-read}
+use Rattle.ottl_lex.proofs.Texts.{was-text, text-read}
 
 -- a token stands at the place
 pub record StandsAt (at : ℕ) (text : List ℕ) (t : Token) : Type 0 where

@@ -1,16 +1,16 @@
 -- A quoted text is read where the table has one, and only there.
-use Rattle.std.proofs.Common.{◌≡◌, ◌≢◌, ◌∙◌, ℕ, zero, suc, ◌+◌, ◌-◌, ◌≤◌, ◌<◌, List, [], ◌∷◌, ◌++◌, length, take, drop, Bool, true, false, refl, sym, ap, subst, arith, append_assoc, length-append, length-drop, length-take}
-use Rattle.std.specs.Prelude.{Option, Some, None, Result, Ok, Err, cond, ◌==◌}
+use Rattle.std.proofs.Common.{◌≡◌, ◌≢◌, ◌∙◌, ℕ, zero, suc, ◌+◌, ◌-◌, List, [], ◌∷◌, ◌++◌, length, take, drop, Bool, true, false, refl, sym, ap, subst, arith, append_assoc, length-append, length-drop, length-take}
+use Rattle.std.specs.Prelude.{Option, Some, None, Result, Ok, Err, ◌==◌}
 use Rattle.std.specs.Str.{IsUtf8, is_utf8}
 use Rattle.std.proofs.lemmas.Bool.Decides.{nat_tests}
-use Rattle.std.proofs.lemmas.List.{append-nil, length-take-le, take-append-drop}
+use Rattle.std.proofs.lemmas.List.{length-take-le, take-append-drop}
 use Rattle.std.proofs.lemmas.Str.{is_utf8-from_IsUtf8, IsUtf8-from_is_utf8}
 use Rattle.std.proofs.Math.Seq.{take-append_seam, drop-append_seam}
 use Rattle.ottl_lex.specs.declared.fault.SyntaxFault.{SyntaxFault}
 use Rattle.ottl_lex.specs.declared.fault.SyntaxKind.TheVariants.{NotUtf8}
 use Rattle.ottl_lex.specs.declared.token.Token.{Token}
 use Rattle.ottl_lex.specs.declared.token.TokenKind.TheVariants.{Quoted}
-use Rattle.ottl_lex.specs.Quoted.{fault, ◌>>=◌, with_front, one_more, closing, escape_at, escaped, unescaped, as_utf8, contents, between_quotes}
+use Rattle.ottl_lex.specs.Quoted.{fault, ◌>>=◌, with_front, one_more, closing, escape_at, escaped, unescaped, as_utf8, text_of, contents, between_quotes}
 use Rattle.ottl_lex.specs.Tokens.{token, quoted_at}
 use Rattle.ottl_lex.specs.Table.{Piece, plain, letter, hex, octal, short, long, spelling, meaning, IsPiece, spelled, meant, ArePieces, IsText, ContentsAreMeant}
 use Rattle.ottl_lex.proofs.Pieces.{unescaped-passed}
@@ -132,18 +132,21 @@ module _ (b : ℕ) (rest : List ℕ) (at : ℕ) (behind bytes : List ℕ) (close
         means = ap (λ xs. b ∷ xs) more.means ∙ front.whole;
       }
 
+  reads-passed : (e : List ℕ × ℕ) (more : List ℕ) → unescaped e.1 (at + 1) rest ≡ Ok more → e.0 ++ more ≡ bytes → EscapePassed b rest behind e.0 e.1 → WasRead (b ∷ rest) bytes
+  reads-passed e more read front passed = behind-piece (reads e.1 (at + 1) behind more read passed.closes) where
+    behind-piece : WasRead (drop e.1 rest) more → WasRead (b ∷ rest) bytes
+    behind-piece others = record {
+      pieces = passed.piece ∷ others.pieces;
+      are = (passed.is, others.are);
+      whole = ap (λ xs. spelling passed.piece ++ xs) others.whole ∙ passed.whole;
+      means = ap (λ xs. meaning passed.piece ++ xs) others.means ∙ ap (λ xs. xs ++ more) passed.means ∙ front;
+    }
+
   reads-escape : b ≡ 92 → (found : Option (List ℕ × ℕ)) → escape_at rest ≡ found → escaped at found (λ n. unescaped n (at + 1) rest) ≡ Ok bytes → WasRead (b ∷ rest) bytes
   reads-escape slash None found is = absurd (cc)
   reads-escape slash (Some e) found is =
       let front = had-front e.0 (unescaped e.1 (at + 1) rest) bytes is in
-      let passed = escape-passed b rest behind closes slash e.0 e.1 (escape-is rest e.0 e.1 found) in
-      let more = reads e.1 (at + 1) behind front.more front.read-is passed.closes in
-      record {
-        pieces = passed.piece ∷ more.pieces;
-        are = (passed.is, more.are);
-        whole = ap (λ xs. spelling passed.piece ++ xs) more.whole ∙ passed.whole;
-        means = ap (λ xs. meaning passed.piece ++ xs) more.means ∙ ap (λ xs. xs ++ front.more) passed.means ∙ front.whole;
-      }
+      reads-passed e front.more front.read-is front.whole (escape-passed b rest behind closes slash e.0 e.1 (escape-is rest e.0 e.1 found))
 
 reads-by : (b : ℕ) (rest : List ℕ) (at : ℕ) (behind bytes : List ℕ) (test : Bool) → (b == 92) ≡ test → unescaped 0 at (b ∷ rest) ≡ Ok bytes
     → closing false (b ∷ rest ++ 34 ∷ behind) ≡ Some (suc (length rest)) → Reads rest → WasRead (b ∷ rest) bytes
@@ -182,6 +185,31 @@ utf8-is at bytes whole is = by_test (is_utf8 bytes) refl where
   by_test true test = IsUtf8-from_is_utf8 bytes test
   by_test false test = absurd (let wrong : Err (fault NotUtf8 at) ≡ Ok whole = rw test at is in cc)
 
+-- what stands before a closing quote closes there
+pub closes-inside : (others : List ℕ) (n : ℕ) → closing false others ≡ Some n → others ≡ take n others ++ 34 ∷ drop (suc n) others
+    → closing false (take n others ++ 34 ∷ drop (suc n) others) ≡ Some (length (take n others))
+closes-inside others n found split =
+    let within : length (take n others) ≡ n = omega (arith, ap length split, length-append (take n others) (34 ∷ drop (suc n) others), length-take n others) in
+    ap (closing false) (sym split) ∙ found ∙ ap Some (sym within)
+
+-- a text that was read
+text-of-pieces : (at : ℕ) (others inside behind bytes : List ℕ) (t : Token) → others ≡ inside ++ 34 ∷ behind → WasRead inside bytes → IsUtf8 bytes
+    → token Quoted at (2 + length inside) ≡ t → WasText at others t
+text-of-pieces at others inside behind bytes t split read utf8 same =
+    let size : length (34 ∷ inside ++ 34 ∷ []) ≡ 2 + length inside = omega (arith, length-append inside (34 ∷ [])) in
+    record {
+      slice = 34 ∷ inside ++ 34 ∷ [];
+      behind = behind;
+      whole = ap (λ xs. 34 ∷ xs) (split ∙ sym (append_assoc inside (34 ∷ []) behind));
+      is = record {
+        pieces = read.pieces;
+        are = read.are;
+        whole = ap (λ xs. 34 ∷ xs ++ 34 ∷ []) (sym read.whole);
+        utf8 = let P : List ℕ → Type 0 = λ xs. IsUtf8 xs in subst P (sym read.means) utf8;
+      };
+      token-is = ap (token Quoted at) size ∙ same;
+    }
+
 module _ (at : ℕ) (others : List ℕ) (t : Token) (n : ℕ) (found : closing false others ≡ Some n) where
   was-utf8 : (read : Result (List ℕ) SyntaxFault) → unescaped 0 (at + 1) (take n others) ≡ read
       → ((read >>= as_utf8 at) >>= λ _. Ok (token Quoted at (2 + n))) ≡ Ok t → WasText at others t
@@ -191,23 +219,12 @@ module _ (at : ℕ) (others : List ℕ) (t : Token) (n : ℕ) (found : closing f
     by_utf8 (Err e) utf8 is = absurd (cc)
     by_utf8 (Ok whole) utf8 is =
         let split = closing-splits false others n found in
+        let closes = closes-inside others n found split in
         let within : length (take n others) ≡ n = omega (arith, ap length split, length-append (take n others) (34 ∷ drop (suc n) others), length-take n others) in
-        let closes : closing false (take n others ++ 34 ∷ drop (suc n) others) ≡ Some (length (take n others)) = ap (closing false) (sym split) ∙ found ∙ ap Some (sym within) in
-        let read = read-pieces (take n others) 0 (at + 1) (drop (suc n) others) bytes read closes in
-        record {
-          slice = 34 ∷ take n others ++ 34 ∷ [];
-          behind = drop (suc n) others;
-          whole = ap (λ xs. 34 ∷ xs) (split ∙ sym (append_assoc (take n others) (34 ∷ []) (drop (suc n) others)));
-          is = record {
-            pieces = read.pieces;
-            are = read.are;
-            whole = ap (λ xs. 34 ∷ xs ++ 34 ∷ []) (sym read.whole);
-            utf8 = let P : List ℕ → Type 0 = λ xs. IsUtf8 xs in subst P (sym read.means) (utf8-is at bytes whole utf8);
-          };
-          token-is =
-              let size : length (34 ∷ take n others ++ 34 ∷ []) ≡ 2 + n = omega (arith, within, length-append (take n others) (34 ∷ [])) in
-              ap (token Quoted at) size ∙ cc;
-        }
+        let same : token Quoted at (2 + n) ≡ t = cc in
+        text-of-pieces at others (take n others) (drop (suc n) others) bytes t split
+        (read-pieces (take n others) 0 (at + 1) (drop (suc n) others) bytes read closes) (utf8-is at bytes whole utf8)
+        (ap (λ m. token Quoted at (2 + m)) within ∙ same)
 
 was-text-by : (at : ℕ) (others : List ℕ) (t : Token) (found : Option ℕ) → closing false others ≡ found → quoted_at at found others ≡ Ok t → WasText at others t
 was-text-by at others t None found is = absurd (cc)
@@ -218,6 +235,7 @@ was-text at others t is = was-text-by at others t (closing false others) refl is
 
 -- contents of a text of the table
 pub contents_are_meant : ContentsAreMeant
+unfolding text_of
 contents_are_meant at slice text =
     let inner : List ℕ = spelled text.pieces ++ 34 ∷ [] in
     let size : length (34 ∷ inner) - 2 ≡ length (spelled text.pieces) = omega (arith, length-append (spelled text.pieces) (34 ∷ [])) in

@@ -1,9 +1,9 @@
 -- What the text has where a fault stands, by the token table.
-use Rattle.std.specs.Prelude.{◌≡◌, ◌≢◌, ◌⊎◌, ℕ, ◌+◌, ◌%◌, Bool, true, false, List, [], ◌∷◌, ◌++◌, length, Result, Err}
+use Rattle.std.specs.Prelude.{◌≡◌, ◌≢◌, ◌⊎◌, ℕ, ◌+◌, ◌%◌, true, false, List, [], ◌∷◌, ◌++◌, length, Err}
 use Rattle.std.specs.Char.{is_ascii_digit, is_ascii_hexdigit}
 use Rattle.std.specs.Str.{IsUtf8}
 use Rattle.ottl_lex.specs.Tokens.{in_word, tokens_of}
-use Rattle.ottl_lex.specs.Table.{Each, IsName, Piece, spelling, meaning, IsPiece, spelled, meant, ArePieces, IsLiteral, HasNoToken, AreTokens}
+use Rattle.ottl_lex.specs.Table.{Each, IsName, Piece, spelling, IsPiece, spelled, meant, ArePieces, IsLiteral, HasNoToken, AreTokens}
 use Rattle.ottl_lex.specs.declared.fault.SyntaxFault.{SyntaxFault}
 use Rattle.ottl_lex.specs.declared.fault.SyntaxKind.{SyntaxKind}
 use Rattle.ottl_lex.specs.declared.fault.SyntaxKind.TheVariants.{BadChar, OpenText, BadEscape, NotUtf8, Fraction, BadNumber}

@@ -125,7 +125,7 @@ tokens_from zero at (b ∷ rest) =
     (token_at at (b ∷ rest) >>= λ t. with_front (t ∷ []) (tokens_from (t.end - (at + 1)) (at + 1) rest))
 
 -- the tokens of a text
-abbrev pub tokens_of : List ℕ → Result (List Token) SyntaxFault
+unfoldable pub tokens_of : List ℕ → Result (List Token) SyntaxFault
 tokens_of text = tokens_from 0 0 text
 
 -- the bytes of a token

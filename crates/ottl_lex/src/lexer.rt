@@ -16,6 +16,7 @@ use std::alloc::Global;
 pub const MAX_TEXT: usize = 1_048_576;
 
 /// The tokens of a text, or its first fault.
+#[tactic(auto, unfolding(crate::specs::Tokens::tokens_of))]
 pub fn lex(alloc: Global, text: &str) -> Result<Tokens, SyntaxStop>
     requires { length text.now ≤ MAX_TEXT }
     ensures value { Gives (λ tokens. tokens) fault_of result (tokens_of text.now) }

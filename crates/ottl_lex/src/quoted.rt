@@ -169,6 +169,7 @@ pub(crate) fn read_contents(alloc: Global, inside: &[u8], at: u32) -> Result<Str
 }
 
 /// The contents of a text with its quotes, the first of which is at the place.
+#[tactic(auto, unfolding(crate::specs::Quoted::text_of))]
 pub fn read_text(alloc: Global, quoted: &[u8], at: u32) -> Result<String, SyntaxStop>
     requires { at + 1 + length quoted.now ≤ MAX_TEXT }
     ensures { Gives string_bytes fault_of result (text_of at quoted.now) }
