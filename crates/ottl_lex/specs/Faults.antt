@@ -100,6 +100,6 @@ pub record StopsAt (at : ℕ) (text : List ℕ) (fault : SyntaxFault) : Type 0 w
   pub before : AreTokens at text tokens place rest
   pub stands : FaultStands fault.kind fault.at place rest
 
--- a fault stands at the first place that has no token, or too long a number
+-- behind tokens and blanks, a fault stands where the text has no token, or digits that are no number
 abbrev pub FaultsStand : Type 0
 FaultsStand = (text : List ℕ) (fault : SyntaxFault) → tokens_of text ≡ Err fault → StopsAt 0 text fault

@@ -108,7 +108,7 @@ fn escapes_stand_for_their_bytes(rt: HostRuntime) -> Result<(), Fail> {
         (r#""\x41\101\u00e9\U0001F600.""#, "AAé😀."),
         (r#""\xc3\xA9\303\251""#, "éé"),
     ] {
-        if MAX_TEXT <= text.len() {
+        if MAX_TEXT < text.len() {
             return Err(AllocError.into());
         }
         assert_eq!(rt;
