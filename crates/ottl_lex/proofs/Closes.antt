@@ -1,20 +1,20 @@
 -- Where a text closes, piece by piece.
-use Rattle.std.proofs.Common.{◌≡◌, ◌≢◌, ◌∙◌, ℕ, zero, suc, ◌+◌, ◌≤◌, ◌<◌, List, [], ◌∷◌, ◌++◌, length, take, drop, Bool, true, false, refl, sym, ap, subst, arith, append_assoc, length-append}
+use Rattle.std.proofs.Common.{◌≡◌, ◌≢◌, ◌∙◌, ℕ, suc, ◌+◌, ◌≤◌, List, [], ◌∷◌, ◌++◌, length, take, drop, Bool, true, false, refl, sym, ap, subst, arith, append_assoc, length-append}
 use Rattle.std.specs.Prelude.{Option, Some, None, option_map, cond, ◌==◌, nat_lt}
 use Rattle.std.specs.Char.{digit_value}
 use Rattle.std.proofs.lemmas.Bool.Decides.{nat_tests}
 use Rattle.ottl_lex.specs.Quoted.{one_more, closing, letter_escape}
-use Rattle.ottl_lex.specs.Table.{Each, AreDigits, Piece, plain, letter, hex, octal, short, long, spelling, IsPiece, spelled, ArePieces}
+use Rattle.ottl_lex.specs.Table.{Each, Piece, plain, letter, hex, octal, short, long, spelling, IsPiece, spelled, ArePieces}
 
 -- so many bytes further
 abbrev pub plus : ℕ → Option ℕ → Option ℕ
 plus n found = option_map (λ k. n + k) found
 
-plus-zero : (found : Option ℕ) → plus 0 found ≡ found
+pub plus-zero : (found : Option ℕ) → plus 0 found ≡ found
 plus-zero None = refl
 plus-zero (Some k) = ap Some (omega arith)
 
-more-plus : (n : ℕ) (found : Option ℕ) → one_more (plus n found) ≡ plus (suc n) found
+pub more-plus : (n : ℕ) (found : Option ℕ) → one_more (plus n found) ≡ plus (suc n) found
 more-plus n None = refl
 more-plus n (Some k) = ap Some (omega arith)
 
@@ -22,14 +22,14 @@ plus-plus : (m n : ℕ) (found : Option ℕ) → plus m (plus n found) ≡ plus 
 plus-plus m n None = refl
 plus-plus m n (Some k) = ap Some (omega arith)
 
-closing-plain : (b : ℕ) (rest : List ℕ) → b ≢ 10 → b ≢ 34 → b ≢ 92 → closing false (b ∷ rest) ≡ one_more (closing false rest)
+pub closing-plain : (b : ℕ) (rest : List ℕ) → b ≢ 10 → b ≢ 34 → b ≢ 92 → closing false (b ∷ rest) ≡ one_more (closing false rest)
 closing-plain b rest newline quote slash =
     let n : (b == 10) ≡ false = grind (arith, nat_tests) in
     let q : (b == 34) ≡ false = grind (arith, nat_tests) in
     let s : (b == 92) ≡ false = grind (arith, nat_tests) in
     rw (n, q, s) refl
 
-closing-slash : (c : ℕ) (rest : List ℕ) → c ≢ 10 → closing false (92 ∷ c ∷ rest) ≡ one_more (one_more (closing false rest))
+pub closing-slash : (c : ℕ) (rest : List ℕ) → c ≢ 10 → closing false (92 ∷ c ∷ rest) ≡ one_more (one_more (closing false rest))
 closing-slash c rest newline =
     let n : (c == 10) ≡ false = grind (arith, nat_tests) in
     rw n refl

@@ -1,13 +1,13 @@
 -- An escape is a piece of the table, and each piece that begins with a backslash is an escape.
-use Rattle.std.proofs.Common.{◌≡◌, ◌≢◌, ◌∙◌, ℕ, zero, suc, ◌+◌, ◌*◌, ◌≤◌, ◌<◌, List, [], ◌∷◌, ◌++◌, length, take, drop, Bool, true, false, refl, sym, ap, arith, append_assoc, length-append}
-use Rattle.std.specs.Prelude.{Option, Some, None, cond, ◌==◌, ◌&&◌, ◌||◌, not, nat_lt, nat_le}
+use Rattle.std.proofs.Common.{◌≡◌, ◌∙◌, ℕ, ◌≤◌, ◌<◌, List, [], ◌∷◌, ◌++◌, length, take, Bool, true, false, refl, sym, ap, arith, length-append}
+use Rattle.std.specs.Prelude.{Option, Some, None, cond, ◌==◌, ◌&&◌, not, nat_lt, nat_le}
 use Rattle.std.specs.Char.{digit_value, encode_utf8}
 use Rattle.std.proofs.lemmas.Bool.Decides.{nat_tests}
 use Rattle.std.proofs.lemmas.List.{length-take-le}
 use Rattle.std.proofs.Math.Seq.{take-append_seam}
 use Rattle.ottl_lex.specs.Numbers.{are_digits, value_in, numeral}
 use Rattle.ottl_lex.specs.Quoted.{Escape, one_byte, one_character, is_character, letters, byte_beside, letter_escape, escape_at}
-use Rattle.ottl_lex.proofs.Tests.{and_left, and_right}
+use Rattle.ottl_lex.proofs.Sides.{and_left, and_right}
 use Rattle.ottl_lex.specs.Table.{Each, AreDigits, Piece, plain, letter, hex, octal, short, long, spelling, meaning, IsPiece}
 
 digits-each : (base : ℕ) (ds : List ℕ) → are_digits base ds ≡ true → Each (λ b. nat_lt (digit_value b) base) ds
@@ -63,9 +63,9 @@ one_byte-is size None bytes s is = absurd (cc)
 one_byte-is size (Some v) bytes s is = by_test (nat_lt v 256) refl where
   by_test : (test : Bool) → nat_lt v 256 ≡ test → IsOneByte size (Some v) bytes s
   by_test true test =
+      let room : v < 256 = grind (arith, nat_tests) in
       let whole : Some (v ∷ [], size) ≡ Some (bytes, s) = rw test at is in
       let pair : (v ∷ [], size) ≡ (bytes, s) = cc in
-      let room : v < 256 = grind (arith, nat_tests) in
       record { v = v; number-is = refl; small = room; bytes-is = ap (λ (e : Escape). e.0) pair; sized = ap (λ (e : Escape). e.1) pair }
   by_test false test = absurd (let none : one_byte size (Some v) ≡ None = rw test refl in cc)
 

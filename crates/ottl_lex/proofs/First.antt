@@ -1,15 +1,14 @@
 -- What a token's first byte tells of it.
-use Rattle.std.proofs.Common.{◌≡◌, ◌∙◌, ℕ, zero, suc, ◌+◌, ◌≤◌, ◌<◌, List, [], ◌∷◌, ◌++◌, length, take, drop, Bool, true, false, refl, sym, ap, arith, inl, inr}
-use Rattle.std.specs.Prelude.{cond, ◌&&◌, ◌||◌, not, ◌==◌, codes, ◌⊎◌}
-use Rattle.std.specs.Char.{is_ascii_digit, is_ascii_hexdigit, is_ascii_lowercase, is_ascii_uppercase}
+use Rattle.std.proofs.Common.{◌≡◌, ℕ, suc, ◌+◌, ◌≤◌, List, [], ◌∷◌, ◌++◌, length, take, Bool, true, false, refl, arith, inl, inr}
+use Rattle.std.specs.Prelude.{◌&&◌, not, ◌==◌, codes, ◌⊎◌}
+use Rattle.std.specs.Char.{is_ascii_digit, is_ascii_lowercase, is_ascii_uppercase}
 use Rattle.std.specs.List.{prefix_len}
 use Rattle.std.specs.Str.{bytes_eq}
 use Rattle.std.proofs.lemmas.Bool.Decides.{nat_tests}
 use Rattle.std.proofs.lemmas.Slice.Eq.{bytes_eq-Decides}
-use Rattle.std.proofs.lemmas.List.{take-append-drop}
 use Rattle.ottl_lex.specs.Tokens.{in_lower, in_upper, is_one_of, is_name_of, keywords, is_keyword, is_sign, before_equals}
-use Rattle.ottl_lex.proofs.Tests.{and_left, and_right}
-use Rattle.ottl_lex.specs.Table.{Each, IsName, IsText, IsLiteral, IsSign, IsToken}
+use Rattle.ottl_lex.proofs.Sides.{and_left, and_right}
+use Rattle.ottl_lex.specs.Table.{Each, IsText, IsLiteral, IsSign, IsToken}
 use Rattle.ottl_lex.specs.declared.token.TokenKind.{TokenKind}
 use Rattle.ottl_lex.specs.declared.token.TokenKind.TheVariants.{Lower, Word, Upper, Quoted, Digits, Hex, Sign}
 

@@ -4,9 +4,10 @@ pub mod Steps
 pub mod Pieces
 pub mod Loop
 pub mod Closes
-pub mod Tests
+pub mod Sides
 pub mod EscapeLemmas
 pub mod Texts
 pub mod First
 pub mod Stands
+pub mod FaultLemmas
 pub mod Longest

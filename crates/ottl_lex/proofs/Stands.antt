@@ -1,22 +1,21 @@
 -- The token that is read at a place is the longest of the table.
-use Rattle.std.proofs.Common.{◌≡◌, ◌≢◌, ◌∙◌, ℕ, zero, suc, ◌+◌, ◌-◌, ◌%◌, ◌≤◌, ◌<◌, List, [], ◌∷◌, ◌++◌, length, take, drop, Bool, true, false, refl, sym, ap, subst, arith, append_assoc, length-append, length-drop, length-take, ◌⊎◌, inl, inr}
-use Rattle.std.specs.Prelude.{Option, Some, None, Result, Ok, Err, cond, ◌==◌, ◌&&◌, nat_lt}
+use Rattle.std.proofs.Common.{◌≡◌, ◌∙◌, ℕ, suc, ◌+◌, ◌-◌, ◌%◌, ◌≤◌, ◌<◌, List, [], ◌∷◌, ◌++◌, length, take, drop, Bool, true, false, refl, sym, ap, subst, arith, length-append, ◌⊎◌, inl, inr}
+use Rattle.std.specs.Prelude.{Ok, Err, cond, ◌==◌, ◌&&◌, nat_lt}
 use Rattle.std.specs.Char.{is_ascii_digit, is_ascii_hexdigit, is_ascii_lowercase, is_ascii_uppercase}
 use Rattle.std.specs.List.{prefix_len}
 use Rattle.std.proofs.lemmas.Bool.Decides.{nat_tests}
 use Rattle.std.proofs.lemmas.List.{take-append-drop}
 use Rattle.std.proofs.lemmas.List.Folds.{length-prefix_len}
-use Rattle.ottl_lex.specs.declared.fault.SyntaxFault.{SyntaxFault}
 use Rattle.ottl_lex.specs.declared.fault.SyntaxKind.TheVariants.{BadChar, Fraction, BadNumber}
 use Rattle.ottl_lex.specs.declared.token.Token.{Token}
 use Rattle.ottl_lex.specs.declared.token.TokenKind.{TokenKind}
 use Rattle.ottl_lex.specs.declared.token.TokenKind.TheVariants.{Lower, Word, Upper, Quoted, Digits, Hex, Sign}
-use Rattle.ottl_lex.specs.Quoted.{fault, ◌>>=◌, closing}
+use Rattle.ottl_lex.specs.Quoted.{fault, closing}
 use Rattle.ottl_lex.specs.Tokens.{in_lower, in_upper, in_word, is_keyword, is_sign, before_equals, equals_first, digit_first, hex_first, token, lower_at, hex_at, digits_before, number_at, quoted_at, sign_at, token_at}
-use Rattle.ottl_lex.specs.Table.{Each, IsName, IsText, IsLiteral, IsSign, IsToken, IsLongest}
+use Rattle.ottl_lex.specs.Table.{Each, IsName, IsLiteral, IsSign, IsToken, IsLongest}
 use Rattle.ottl_lex.proofs.First.{each-le, each-front, lower-in_lower, upper-in_upper, token-some, lower-only, upper-only, digit-only, quote-only, other-only}
-use Rattle.ottl_lex.proofs.Tests.{and_left, and_right}
-use Rattle.ottl_lex.proofs.Texts.{WasText, was-text, text-read}
+use Rattle.ottl_lex.proofs.Sides.{and_left, and_right}
+use Rattle.ottl_lex.proofs.Texts.{was-text, text-read}
 
 -- a token stands at the place
 pub record StandsAt (at : ℕ) (text : List ℕ) (t : Token) : Type 0 where
@@ -45,14 +44,14 @@ stands at text slice behind kind whole is some longest =
     }
 
 -- the first byte of a front is the text's
-front-first : (b c : ℕ) (others front rest : List ℕ) (kind : TokenKind) → b ∷ others ≡ (c ∷ front) ++ rest → IsToken kind (c ∷ front) → IsToken kind (b ∷ front)
+pub front-first : (b c : ℕ) (others front rest : List ℕ) (kind : TokenKind) → b ∷ others ≡ (c ∷ front) ++ rest → IsToken kind (c ∷ front) → IsToken kind (b ∷ front)
 front-first b c others front rest kind whole is =
     let same : c ≡ b = cc in
     let P : ℕ → Type 0 = λ d. IsToken kind (d ∷ front) in
     subst P same is
 
 module _ (p : ℕ → Bool) (b : ℕ) (others : List ℕ) (passes : p b ≡ true) where
-  name-slice : take (prefix_len p (b ∷ others)) (b ∷ others) ≡ b ∷ take (prefix_len p others) others
+  pub name-slice : take (prefix_len p (b ∷ others)) (b ∷ others) ≡ b ∷ take (prefix_len p others) others
   name-slice = let one : 1 + prefix_len p others ≡ suc (prefix_len p others) = omega arith in rw (passes, one) refl
 
   name-longest : ((other : TokenKind) (front : List ℕ) → IsToken other (b ∷ front) → Each p (b ∷ front))
@@ -96,11 +95,11 @@ upper-stands at b others up =
     name-stands in_upper b others (upper-in_upper b up) at Upper (up, each-front in_upper others) (λ other front is. upper-only other b front up is)
 
 -- what a text of two bytes and more begins with
-record BeginsHex (text : List ℕ) : Type 0 where
-  others : List ℕ
-  whole : text ≡ 48 ∷ 120 ∷ others
+pub record BeginsHex (text : List ℕ) : Type 0 where
+  pub others : List ℕ
+  pub whole : text ≡ 48 ∷ 120 ∷ others
 
-begins-hex : (text : List ℕ) → hex_first text ≡ true → BeginsHex text
+pub begins-hex : (text : List ℕ) → hex_first text ≡ true → BeginsHex text
 begins-hex [] is = absurd (cc)
 begins-hex (a ∷ []) is = absurd (cc)
 begins-hex (a ∷ b ∷ others) is =
@@ -109,10 +108,10 @@ begins-hex (a ∷ b ∷ others) is =
     record { others = others; whole = rw (x, y) refl }
 
 -- a bytes literal at the front
-literal-first : (text front rest : List ℕ) → text ≡ front ++ rest → IsLiteral front → hex_first text ≡ true
+pub literal-first : (text front rest : List ℕ) → text ≡ front ++ rest → IsLiteral front → hex_first text ≡ true
 literal-first text front rest whole is = let begins : text ≡ (48 ∷ 120 ∷ is.digits) ++ rest = whole ∙ ap (λ xs. xs ++ rest) is.whole in rw begins refl
 
-literal-longest : (others front rest : List ℕ) → 48 ∷ 120 ∷ others ≡ front ++ rest → IsLiteral front → length front ≤ 2 + prefix_len is_ascii_hexdigit others
+pub literal-longest : (others front rest : List ℕ) → 48 ∷ 120 ∷ others ≡ front ++ rest → IsLiteral front → length front ≤ 2 + prefix_len is_ascii_hexdigit others
 literal-longest others front rest whole is =
     let begins : 48 ∷ 120 ∷ others ≡ 48 ∷ 120 ∷ is.digits ++ rest = whole ∙ ap (λ xs. xs ++ rest) is.whole in
     let tail : others ≡ is.digits ++ rest = cc in
@@ -227,7 +226,7 @@ quoted-stands at others t is =
         omega (arith, same)
 
 -- what begins with a sign's first byte and a `=`
-equals-is : (rest : List ℕ) → equals_first rest ≡ true → (behind : List ℕ) × (rest ≡ 61 ∷ behind)
+pub equals-is : (rest : List ℕ) → equals_first rest ≡ true → (behind : List ℕ) × (rest ≡ 61 ∷ behind)
 equals-is [] is = absurd (cc)
 equals-is (c ∷ behind) is = let e : c ≡ 61 = grind (arith, nat_tests) in (behind, rw e refl)
 
@@ -246,11 +245,11 @@ sign-short b (c ∷ []) is = omega arith
 sign-short b (c ∷ d ∷ more) is = absurd is
 
 -- the first byte of no other row
-record IsRest (b : ℕ) : Type 0 where
-  lower : is_ascii_lowercase b ≡ false
-  upper : is_ascii_uppercase b ≡ false
-  digit : is_ascii_digit b ≡ false
-  quote : (b == 34) ≡ false
+pub record IsRest (b : ℕ) : Type 0 where
+  pub lower : is_ascii_lowercase b ≡ false
+  pub upper : is_ascii_uppercase b ≡ false
+  pub digit : is_ascii_digit b ≡ false
+  pub quote : (b == 34) ≡ false
 
 sign-stands : (at b : ℕ) (others : List ℕ) (t : Token) → IsRest b → sign_at at b others ≡ Ok t → StandsAt at (b ∷ others) t
 sign-stands at b others t other is = by_pair (before_equals b && equals_first others) refl where

@@ -1,18 +1,18 @@
 -- A quoted text is read where the table has one, and only there.
-use Rattle.std.proofs.Common.{◌≡◌, ◌≢◌, ◌∙◌, ℕ, zero, suc, ◌+◌, ◌-◌, ◌≤◌, ◌<◌, List, [], ◌∷◌, ◌++◌, length, take, drop, Bool, true, false, refl, sym, ap, subst, arith, append_assoc, length-append, length-drop, length-take}
-use Rattle.std.specs.Prelude.{Option, Some, None, Result, Ok, Err, cond, ◌==◌}
+use Rattle.std.proofs.Common.{◌≡◌, ◌≢◌, ◌∙◌, ℕ, zero, suc, ◌+◌, ◌-◌, List, [], ◌∷◌, ◌++◌, length, take, drop, Bool, true, false, refl, sym, ap, subst, arith, append_assoc, length-append, length-drop, length-take}
+use Rattle.std.specs.Prelude.{Option, Some, None, Result, Ok, Err, ◌==◌}
 use Rattle.std.specs.Str.{IsUtf8, is_utf8}
 use Rattle.std.proofs.lemmas.Bool.Decides.{nat_tests}
-use Rattle.std.proofs.lemmas.List.{append-nil, length-take-le, take-append-drop}
+use Rattle.std.proofs.lemmas.List.{length-take-le, take-append-drop}
 use Rattle.std.proofs.lemmas.Str.{is_utf8-from_IsUtf8, IsUtf8-from_is_utf8}
 use Rattle.std.proofs.Math.Seq.{take-append_seam, drop-append_seam}
 use Rattle.ottl_lex.specs.declared.fault.SyntaxFault.{SyntaxFault}
 use Rattle.ottl_lex.specs.declared.fault.SyntaxKind.TheVariants.{NotUtf8}
 use Rattle.ottl_lex.specs.declared.token.Token.{Token}
 use Rattle.ottl_lex.specs.declared.token.TokenKind.TheVariants.{Quoted}
-use Rattle.ottl_lex.specs.Quoted.{fault, ◌>>=◌, with_front, one_more, closing, escape_at, escaped, unescaped, as_utf8, contents}
+use Rattle.ottl_lex.specs.Quoted.{fault, ◌>>=◌, with_front, one_more, closing, escape_at, escaped, unescaped, as_utf8, text_of, contents, between_quotes}
 use Rattle.ottl_lex.specs.Tokens.{token, quoted_at}
-use Rattle.ottl_lex.specs.Table.{Piece, plain, letter, hex, octal, short, long, spelling, meaning, IsPiece, spelled, meant, ArePieces, IsText}
+use Rattle.ottl_lex.specs.Table.{Piece, plain, letter, hex, octal, short, long, spelling, meaning, IsPiece, spelled, meant, ArePieces, IsText, ContentsAreMeant}
 use Rattle.ottl_lex.proofs.Pieces.{unescaped-passed}
 use Rattle.ottl_lex.proofs.Closes.{plus, closing-piece, closing-text, closing-splits}
 use Rattle.ottl_lex.proofs.EscapeLemmas.{EscapeIs, escape-is, escape-of}
@@ -62,12 +62,12 @@ had-front : (front : List ℕ) (read : Result (List ℕ) SyntaxFault) (bytes : L
 had-front front (Ok more) bytes is = record { more = more; read-is = refl; whole = cc }
 had-front front (Err e) bytes is = absurd (cc)
 
-record WasPlus (n : ℕ) (found : Option ℕ) (k : ℕ) : Type 0 where
-  m : ℕ
-  found-is : found ≡ Some m
-  sum : n + m ≡ k
+pub record WasPlus (n : ℕ) (found : Option ℕ) (k : ℕ) : Type 0 where
+  pub m : ℕ
+  pub found-is : found ≡ Some m
+  pub sum : n + m ≡ k
 
-was-plus : (n : ℕ) (found : Option ℕ) (k : ℕ) → plus n found ≡ Some k → WasPlus n found k
+pub was-plus : (n : ℕ) (found : Option ℕ) (k : ℕ) → plus n found ≡ Some k → WasPlus n found k
 was-plus n None k is = absurd (cc)
 was-plus n (Some m) k is = record { m = m; found-is = refl; sum = cc }
 
@@ -76,12 +76,12 @@ was-more None m is = absurd (cc)
 was-more (Some k) m is = let e : suc k ≡ suc m = cc in ap Some (omega (arith, e))
 
 -- a plain byte of a text that closes further on
-record ClosesFurther (b : ℕ) (rest : List ℕ) (m : ℕ) : Type 0 where
-  newline : b ≢ 10
-  quote : b ≢ 34
-  further : closing false rest ≡ Some m
+pub record ClosesFurther (b : ℕ) (rest : List ℕ) (m : ℕ) : Type 0 where
+  pub newline : b ≢ 10
+  pub quote : b ≢ 34
+  pub further : closing false rest ≡ Some m
 
-closes-further : (b : ℕ) (rest : List ℕ) (m : ℕ) → (b == 92) ≡ false → closing false (b ∷ rest) ≡ Some (suc m) → ClosesFurther b rest m
+pub closes-further : (b : ℕ) (rest : List ℕ) (m : ℕ) → (b == 92) ≡ false → closing false (b ∷ rest) ≡ Some (suc m) → ClosesFurther b rest m
 closes-further b rest m slash is = by_newline (b == 10) refl where
   by_quote : (q : Bool) → (b == 10) ≡ false → (b == 34) ≡ q → ClosesFurther b rest m
   by_quote true n q = absurd (let found : Some 0 ≡ Some (suc m) = rw (n, q) at is in cc)
@@ -92,6 +92,28 @@ closes-further b rest m slash is = by_newline (b == 10) refl where
   by_newline : (n : Bool) → (b == 10) ≡ n → ClosesFurther b rest m
   by_newline true n = absurd (let found : None ≡ Some (suc m) = rw n at is in cc)
   by_newline false n = by_quote (b == 34) n refl
+
+-- an escape of a text that closes further on
+pub record EscapePassed (b : ℕ) (rest behind bytes : List ℕ) (size : ℕ) : Type 0 where
+  pub piece : Piece
+  pub is : IsPiece piece
+  pub sized : length (spelling piece) ≡ suc size
+  pub whole : spelling piece ++ drop size rest ≡ b ∷ rest
+  pub means : meaning piece ≡ bytes
+  pub closes : closing false (drop size rest ++ 34 ∷ behind) ≡ Some (length (drop size rest))
+
+pub escape-passed : (b : ℕ) (rest behind : List ℕ) → closing false (b ∷ rest ++ 34 ∷ behind) ≡ Some (suc (length rest)) → b ≡ 92
+    → (bytes : List ℕ) (size : ℕ) → EscapeIs rest bytes size → EscapePassed b rest behind bytes size
+escape-passed b rest behind closes slash bytes size escape =
+    let whole : spelling escape.piece ++ drop size rest ≡ b ∷ rest = rw (escape.spells, slash) (ap (λ xs. 92 ∷ xs) (take-append-drop size rest)) in
+    let split : b ∷ rest ++ 34 ∷ behind ≡ spelling escape.piece ++ (drop size rest ++ 34 ∷ behind) =
+    ap (λ xs. xs ++ 34 ∷ behind) (sym whole) ∙ append_assoc (spelling escape.piece) (drop size rest) (34 ∷ behind) in
+    let counted : plus (length (spelling escape.piece)) (closing false (drop size rest ++ 34 ∷ behind)) ≡ Some (suc (length rest)) =
+    sym (closing-piece escape.piece (drop size rest ++ 34 ∷ behind) escape.is) ∙ ap (closing false) (sym split) ∙ closes in
+    let further = was-plus (length (spelling escape.piece)) (closing false (drop size rest ++ 34 ∷ behind)) (suc (length rest)) counted in
+    let sized : length (spelling escape.piece) ≡ suc size = ap length escape.spells ∙ ap suc (length-take-le size rest escape.within) in
+    let left : further.m ≡ length (drop size rest) = omega (arith, further.sum, sized, escape.within, length-drop size rest) in
+    record { piece = escape.piece; is = escape.is; sized = sized; whole = whole; means = escape.means; closes = further.found-is ∙ ap Some left }
 
 abbrev pub Reads : List ℕ → Type 0
 Reads text = (n at : ℕ) (behind bytes : List ℕ) → unescaped n at text ≡ Ok bytes
@@ -110,26 +132,21 @@ module _ (b : ℕ) (rest : List ℕ) (at : ℕ) (behind bytes : List ℕ) (close
         means = ap (λ xs. b ∷ xs) more.means ∙ front.whole;
       }
 
+  reads-passed : (e : List ℕ × ℕ) (more : List ℕ) → unescaped e.1 (at + 1) rest ≡ Ok more → e.0 ++ more ≡ bytes → EscapePassed b rest behind e.0 e.1 → WasRead (b ∷ rest) bytes
+  reads-passed e more read front passed = behind-piece (reads e.1 (at + 1) behind more read passed.closes) where
+    behind-piece : WasRead (drop e.1 rest) more → WasRead (b ∷ rest) bytes
+    behind-piece others = record {
+      pieces = passed.piece ∷ others.pieces;
+      are = (passed.is, others.are);
+      whole = ap (λ xs. spelling passed.piece ++ xs) others.whole ∙ passed.whole;
+      means = ap (λ xs. meaning passed.piece ++ xs) others.means ∙ ap (λ xs. xs ++ more) passed.means ∙ front;
+    }
+
   reads-escape : b ≡ 92 → (found : Option (List ℕ × ℕ)) → escape_at rest ≡ found → escaped at found (λ n. unescaped n (at + 1) rest) ≡ Ok bytes → WasRead (b ∷ rest) bytes
   reads-escape slash None found is = absurd (cc)
   reads-escape slash (Some e) found is =
       let front = had-front e.0 (unescaped e.1 (at + 1) rest) bytes is in
-      let escape = escape-is rest e.0 e.1 found in
-      let whole : spelling escape.piece ++ drop e.1 rest ≡ b ∷ rest = rw (escape.spells, slash) (ap (λ xs. 92 ∷ xs) (take-append-drop e.1 rest)) in
-      let split : b ∷ rest ++ 34 ∷ behind ≡ spelling escape.piece ++ (drop e.1 rest ++ 34 ∷ behind) =
-      ap (λ xs. xs ++ 34 ∷ behind) (sym whole) ∙ append_assoc (spelling escape.piece) (drop e.1 rest) (34 ∷ behind) in
-      let counted : plus (length (spelling escape.piece)) (closing false (drop e.1 rest ++ 34 ∷ behind)) ≡ Some (suc (length rest)) =
-      sym (closing-piece escape.piece (drop e.1 rest ++ 34 ∷ behind) escape.is) ∙ ap (closing false) (sym split) ∙ closes in
-      let further = was-plus (length (spelling escape.piece)) (closing false (drop e.1 rest ++ 34 ∷ behind)) (suc (length rest)) counted in
-      let size : length (spelling escape.piece) ≡ suc e.1 = ap length escape.spells ∙ ap suc (length-take-le e.1 rest escape.within) in
-      let left : further.m ≡ length (drop e.1 rest) = omega (arith, further.sum, size, escape.within, length-drop e.1 rest) in
-      let more = reads e.1 (at + 1) behind front.more front.read-is (further.found-is ∙ ap Some left) in
-      record {
-        pieces = escape.piece ∷ more.pieces;
-        are = (escape.is, more.are);
-        whole = ap (λ xs. spelling escape.piece ++ xs) more.whole ∙ whole;
-        means = ap (λ xs. meaning escape.piece ++ xs) more.means ∙ ap (λ xs. xs ++ front.more) escape.means ∙ front.whole;
-      }
+      reads-passed e front.more front.read-is front.whole (escape-passed b rest behind closes slash e.0 e.1 (escape-is rest e.0 e.1 found))
 
 reads-by : (b : ℕ) (rest : List ℕ) (at : ℕ) (behind bytes : List ℕ) (test : Bool) → (b == 92) ≡ test → unescaped 0 at (b ∷ rest) ≡ Ok bytes
     → closing false (b ∷ rest ++ 34 ∷ behind) ≡ Some (suc (length rest)) → Reads rest → WasRead (b ∷ rest) bytes
@@ -168,6 +185,31 @@ utf8-is at bytes whole is = by_test (is_utf8 bytes) refl where
   by_test true test = IsUtf8-from_is_utf8 bytes test
   by_test false test = absurd (let wrong : Err (fault NotUtf8 at) ≡ Ok whole = rw test at is in cc)
 
+-- what stands before a closing quote closes there
+pub closes-inside : (others : List ℕ) (n : ℕ) → closing false others ≡ Some n → others ≡ take n others ++ 34 ∷ drop (suc n) others
+    → closing false (take n others ++ 34 ∷ drop (suc n) others) ≡ Some (length (take n others))
+closes-inside others n found split =
+    let within : length (take n others) ≡ n = omega (arith, ap length split, length-append (take n others) (34 ∷ drop (suc n) others), length-take n others) in
+    ap (closing false) (sym split) ∙ found ∙ ap Some (sym within)
+
+-- a text that was read
+text-of-pieces : (at : ℕ) (others inside behind bytes : List ℕ) (t : Token) → others ≡ inside ++ 34 ∷ behind → WasRead inside bytes → IsUtf8 bytes
+    → token Quoted at (2 + length inside) ≡ t → WasText at others t
+text-of-pieces at others inside behind bytes t split read utf8 same =
+    let size : length (34 ∷ inside ++ 34 ∷ []) ≡ 2 + length inside = omega (arith, length-append inside (34 ∷ [])) in
+    record {
+      slice = 34 ∷ inside ++ 34 ∷ [];
+      behind = behind;
+      whole = ap (λ xs. 34 ∷ xs) (split ∙ sym (append_assoc inside (34 ∷ []) behind));
+      is = record {
+        pieces = read.pieces;
+        are = read.are;
+        whole = ap (λ xs. 34 ∷ xs ++ 34 ∷ []) (sym read.whole);
+        utf8 = let P : List ℕ → Type 0 = λ xs. IsUtf8 xs in subst P (sym read.means) utf8;
+      };
+      token-is = ap (token Quoted at) size ∙ same;
+    }
+
 module _ (at : ℕ) (others : List ℕ) (t : Token) (n : ℕ) (found : closing false others ≡ Some n) where
   was-utf8 : (read : Result (List ℕ) SyntaxFault) → unescaped 0 (at + 1) (take n others) ≡ read
       → ((read >>= as_utf8 at) >>= λ _. Ok (token Quoted at (2 + n))) ≡ Ok t → WasText at others t
@@ -177,23 +219,12 @@ module _ (at : ℕ) (others : List ℕ) (t : Token) (n : ℕ) (found : closing f
     by_utf8 (Err e) utf8 is = absurd (cc)
     by_utf8 (Ok whole) utf8 is =
         let split = closing-splits false others n found in
+        let closes = closes-inside others n found split in
         let within : length (take n others) ≡ n = omega (arith, ap length split, length-append (take n others) (34 ∷ drop (suc n) others), length-take n others) in
-        let closes : closing false (take n others ++ 34 ∷ drop (suc n) others) ≡ Some (length (take n others)) = ap (closing false) (sym split) ∙ found ∙ ap Some (sym within) in
-        let read = read-pieces (take n others) 0 (at + 1) (drop (suc n) others) bytes read closes in
-        record {
-          slice = 34 ∷ take n others ++ 34 ∷ [];
-          behind = drop (suc n) others;
-          whole = ap (λ xs. 34 ∷ xs) (split ∙ sym (append_assoc (take n others) (34 ∷ []) (drop (suc n) others)));
-          is = record {
-            pieces = read.pieces;
-            are = read.are;
-            whole = ap (λ xs. 34 ∷ xs ++ 34 ∷ []) (sym read.whole);
-            utf8 = let P : List ℕ → Type 0 = λ xs. IsUtf8 xs in subst P (sym read.means) (utf8-is at bytes whole utf8);
-          };
-          token-is =
-              let size : length (34 ∷ take n others ++ 34 ∷ []) ≡ 2 + n = omega (arith, within, length-append (take n others) (34 ∷ [])) in
-              ap (token Quoted at) size ∙ cc;
-        }
+        let same : token Quoted at (2 + n) ≡ t = cc in
+        text-of-pieces at others (take n others) (drop (suc n) others) bytes t split
+        (read-pieces (take n others) 0 (at + 1) (drop (suc n) others) bytes read closes) (utf8-is at bytes whole utf8)
+        (ap (λ m. token Quoted at (2 + m)) within ∙ same)
 
 was-text-by : (at : ℕ) (others : List ℕ) (t : Token) (found : Option ℕ) → closing false others ≡ found → quoted_at at found others ≡ Ok t → WasText at others t
 was-text-by at others t None found is = absurd (cc)
@@ -201,3 +232,13 @@ was-text-by at others t (Some n) found is = was-utf8 at others t n found (unesca
 
 pub was-text : (at : ℕ) (others : List ℕ) (t : Token) → quoted_at at (closing false others) others ≡ Ok t → WasText at others t
 was-text at others t is = was-text-by at others t (closing false others) refl is
+
+-- contents of a text of the table
+pub contents_are_meant : ContentsAreMeant
+unfolding text_of
+contents_are_meant at slice text =
+    let inner : List ℕ = spelled text.pieces ++ 34 ∷ [] in
+    let size : length (34 ∷ inner) - 2 ≡ length (spelled text.pieces) = omega (arith, length-append (spelled text.pieces) (34 ∷ [])) in
+    let between : between_quotes (34 ∷ inner) ≡ spelled text.pieces = ap (λ n. take n inner) size ∙ take-append_seam (spelled text.pieces) (34 ∷ []) in
+    ap (λ xs. contents at (between_quotes xs)) text.whole ∙ ap (contents at) between
+    ∙ rw (unescaped-pieces (at + 1) text.pieces text.are, is_utf8-from_IsUtf8 (meant text.pieces) text.utf8) refl

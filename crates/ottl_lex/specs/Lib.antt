@@ -5,5 +5,6 @@ pub mod Numbers
 pub mod Names
 -- The token table, apart from how tokens are read.
 pub mod Table
+pub mod Faults
 -- Inside the crate.
 pub mod Escapes

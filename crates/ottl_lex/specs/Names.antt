@@ -1,5 +1,6 @@
 -- Printed faults.
-use Rattle.std.specs.Prelude.{ℕ, List, codes, Option, Some, None}
+use Rattle.std.specs.Prelude.{◌++◌, ℕ, List, codes, Option, Some, None}
+use Rattle.std.specs.Fmt.{decimal}
 use Rattle.ottl_lex.specs.declared.fault.SyntaxKind.{SyntaxKind}
 use Rattle.ottl_lex.specs.declared.fault.SyntaxKind.TheVariants.{BadChar, OpenText, BadEscape, NotUtf8, Fraction, BadNumber, Wide, Unexpected, ConditionWanted, ValueWanted, TooDeep}
 use Rattle.ottl_lex.specs.declared.fault.SyntaxFault.{SyntaxFault}
@@ -19,6 +20,10 @@ kind_name Unexpected = codes "Unexpected"
 kind_name ConditionWanted = codes "ConditionWanted"
 kind_name ValueWanted = codes "ValueWanted"
 kind_name TooDeep = codes "TooDeep"
+
+-- a fault as it is printed
+abbrev pub fault_text : SyntaxFault → List ℕ
+fault_text fault = kind_name fault.kind ++ codes " at " ++ decimal fault.at
 
 -- the fault of an error; None for want of memory
 abbrev pub fault_of : SyntaxStop → Option SyntaxFault

@@ -107,5 +107,5 @@ abbrev pub between_quotes : List ℕ → List ℕ
 between_quotes quoted = take (length quoted - 2) (drop 1 quoted)
 
 -- the contents of a text with its quotes, the first of which is at the place
-abbrev pub text_of : ℕ → List ℕ → Result (List ℕ) SyntaxFault
+unfoldable pub text_of : ℕ → List ℕ → Result (List ℕ) SyntaxFault
 text_of at quoted = contents at (between_quotes quoted)

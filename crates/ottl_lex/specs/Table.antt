@@ -1,11 +1,10 @@
 -- The token table as a relation, and what tokens and faults of a text have to do with it.
-use Rattle.std.specs.Prelude.{◌≡◌, ◌≢◌, ◌⊎◌, ℕ, ◌+◌, ◌-◌, ◌*◌, ◌%◌, ◌<◌, ◌≤◌, Bool, true, false, nat_lt, List, [], ◌∷◌, ◌++◌, length, drop, Option, Some, Result, Ok, Err}
+use Rattle.std.specs.Prelude.{◌≡◌, ◌≢◌, ℕ, ◌+◌, ◌-◌, ◌%◌, ◌<◌, ◌≤◌, Bool, true, false, nat_lt, List, [], ◌∷◌, ◌++◌, length, drop, Some, Ok}
 use Rattle.std.specs.Char.{encode_utf8, digit_value, is_ascii_digit, is_ascii_hexdigit, is_ascii_lowercase, is_ascii_uppercase}
 use Rattle.std.specs.Str.{IsUtf8}
 use Rattle.ottl_lex.specs.Numbers.{value_in}
-use Rattle.ottl_lex.specs.Quoted.{letter_escape, is_character}
+use Rattle.ottl_lex.specs.Quoted.{letter_escape, is_character, text_of}
 use Rattle.ottl_lex.specs.Tokens.{is_blank, in_lower, in_upper, is_keyword, is_sign, before_equals, tokens_of}
-use Rattle.ottl_lex.specs.declared.fault.SyntaxFault.{SyntaxFault}
 use Rattle.ottl_lex.specs.declared.token.Token.{Token}
 use Rattle.ottl_lex.specs.declared.token.TokenKind.{TokenKind}
 use Rattle.ottl_lex.specs.declared.token.TokenKind.TheVariants.{Lower, Word, Upper, Quoted, Digits, Hex, Sign}
@@ -136,3 +135,7 @@ AreTokens at text (t ∷ ts) place rest =
 -- the tokens of a text are all of it but blanks
 abbrev pub TokensAreLongest : Type 0
 TokensAreLongest = (text : List ℕ) (tokens : List Token) → tokens_of text ≡ Ok tokens → AreTokens 0 text tokens (length text) []
+
+-- what is read from a text of the table is what its pieces stand for
+abbrev pub ContentsAreMeant : Type 0
+ContentsAreMeant = (at : ℕ) (slice : List ℕ) (text : IsText slice) → text_of at slice ≡ Ok (meant text.pieces)

@@ -1,5 +1,5 @@
 -- Tokens: the longest that the token table allows at a place, or the fault that stands there.
-use Rattle.std.specs.Prelude.{ℕ, zero, suc, ◌+◌, ◌-◌, ◌%◌, Bool, false, cond, ◌==◌, ◌&&◌, ◌||◌, nat_lt, List, [], ◌∷◌, take, drop, Option, Some, None, Result, Ok, Err, codes}
+use Rattle.std.specs.Prelude.{length, ℕ, zero, suc, ◌+◌, ◌-◌, ◌%◌, ◌<◌, ◌≤◌, Bool, false, cond, ◌==◌, ◌&&◌, ◌||◌, nat_lt, List, [], ◌∷◌, take, drop, Option, Some, None, Result, Ok, Err, codes}
 use Rattle.std.specs.Char.{is_ascii_digit, is_ascii_hexdigit, is_ascii_lowercase, is_ascii_uppercase}
 use Rattle.std.specs.List.{prefix_len}
 use Rattle.std.specs.Str.{bytes_eq}
@@ -125,9 +125,13 @@ tokens_from zero at (b ∷ rest) =
     (token_at at (b ∷ rest) >>= λ t. with_front (t ∷ []) (tokens_from (t.end - (at + 1)) (at + 1) rest))
 
 -- the tokens of a text
-abbrev pub tokens_of : List ℕ → Result (List Token) SyntaxFault
+unfoldable pub tokens_of : List ℕ → Result (List Token) SyntaxFault
 tokens_of text = tokens_from 0 0 text
 
 -- the bytes of a token
 abbrev pub slice_of : List ℕ → Token → List ℕ
 slice_of text token = take (token.end - token.begin) (drop token.begin text)
+
+-- the token's bytes are some of the text's
+abbrev pub IsWithin : List ℕ → Token → Type 0
+IsWithin text token = (token.begin < token.end) × (token.end ≤ length text)

@@ -2,7 +2,7 @@
 
 ghost use Rattle.std.specs.Prelude.{◌≡◌, Some};
 ghost use Rattle.ottl_lex.specs.declared.fault.SyntaxStop.TheVariants.{Fault, NoMemory};
-ghost use Rattle.ottl_lex.specs.Names.{kind_name};
+ghost use Rattle.ottl_lex.specs.Names.{fault_text, kind_name};
 
 use std::alloc::AllocError;
 use std::fmt;
@@ -56,6 +56,16 @@ impl fmt::Display for SyntaxKind {
 pub struct SyntaxFault {
     pub kind: SyntaxKind,
     pub at: u32,
+}
+
+impl fmt::Display for SyntaxFault {
+    ghost output = { λ fault. Some (fault_text fault) };
+
+    fn fmt<W: fmt::Write>(&self, f: &mut fmt::Formatter<W>) -> fmt::Result {
+        let kind = self.kind;
+        let at = self.at;
+        write!(f, "{kind} at {at}")
+    }
 }
 
 /// Why a text has no tokens, or no statement.

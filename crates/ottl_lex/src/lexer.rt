@@ -1,10 +1,10 @@
 //! The tokens of a text.
 
-ghost use Rattle.std.specs.Prelude.{◌≡◌, ◌+◌, ◌-◌, ◌<◌, ◌≤◌, ◌==◌, length, IfOk, IsTrue, true, false};
+ghost use Rattle.std.specs.Prelude.{◌≡◌, ◌+◌, ◌-◌, ◌<◌, ◌≤◌, ◌==◌, length, All, IfOk, IsTrue, true, false};
 ghost use Rattle.contract_words.specs.Gives.{Gives};
 ghost use Rattle.ottl_lex.specs.Names.{fault_of};
 ghost use Rattle.ottl_lex.specs.Quoted.{closing};
-ghost use Rattle.ottl_lex.specs.Tokens.{is_blank, lower_at, is_keyword, number_at, hex_at, hex_first, digits_before, digit_first, in_word, quoted_at, sign_at, is_sign, before_equals, equals_first, token, token_at, tokens_of};
+ghost use Rattle.ottl_lex.specs.Tokens.{is_blank, lower_at, is_keyword, number_at, hex_at, hex_first, digits_before, digit_first, in_word, quoted_at, sign_at, is_sign, before_equals, equals_first, token, token_at, tokens_of, IsWithin};
 
 use crate::fault::{SyntaxFault, SyntaxKind, SyntaxStop, stop};
 use crate::lengths::{digits_len, hex_len, lower_len, upper_len};
@@ -16,9 +16,11 @@ use std::alloc::Global;
 pub const MAX_TEXT: usize = 1_048_576;
 
 /// The tokens of a text, or its first fault.
+#[tactic(auto, unfolding(crate::specs::Tokens::tokens_of))]
 pub fn lex(alloc: Global, text: &str) -> Result<Tokens, SyntaxStop>
     requires { length text.now ≤ MAX_TEXT }
-    ensures { Gives (λ tokens. tokens) fault_of result (tokens_of text.now) }
+    ensures value { Gives (λ tokens. tokens) fault_of result (tokens_of text.now) }
+    ensures within { IfOk result (All (IsWithin text.now)) }
 {
     let mut tokens = Tokens::new(alloc);
     let mut at: u32 = 0;
@@ -48,7 +50,7 @@ fn is_blank(byte: u8) -> bool
 fn token_at(alloc: Global, text: &[u8], at: u32) -> Result<Token, SyntaxStop>
     requires { at + length text.now ≤ MAX_TEXT }
     ensures value { Gives (λ token. token) fault_of result (token_at at text.now) }
-    ensures within { IfOk result (λ token. (at < token.end) × (token.end ≤ at + length text.now)) }
+    ensures within { IfOk result (λ token. (token.begin ≡ at) × (at < token.end) × (token.end ≤ at + length text.now)) }
 {
     let Some((first, rest)) = text.split_first() else {
         return Err(stop(SyntaxKind::BadChar, at));
@@ -103,7 +105,7 @@ fn is_keyword(name: &[u8]) -> bool
 fn number_at(text: &[u8], at: u32) -> Result<Token, SyntaxFault>
     requires { at + length text.now ≤ MAX_TEXT }
     ensures value { result ≡ number_at at text.now }
-    ensures within { IfOk result (λ token. token.end ≤ at + length text.now) }
+    ensures within { IfOk result (λ token. (token.begin ≡ at) × (token.end ≤ at + length text.now)) }
     ensures some { digit_first text.now ≡ true → IfOk result (λ token. at < token.end) }
 {
     if hex_first(text) {
@@ -124,7 +126,7 @@ fn hex_first(text: &[u8]) -> bool
 fn hex_at(at: u32, count: usize) -> Result<Token, SyntaxFault>
     requires { at + 2 + count ≤ MAX_TEXT }
     ensures value { result ≡ hex_at at count }
-    ensures end { IfOk result (λ token. token.end ≡ at + 2 + count) }
+    ensures end { IfOk result (λ token. (token.begin ≡ at) × (token.end ≡ at + 2 + count)) }
 {
     if 0 < count && count % 2 == 0 {
         Ok(token(TokenKind::Hex, at, 2 + count))
@@ -140,7 +142,7 @@ fn hex_at(at: u32, count: usize) -> Result<Token, SyntaxFault>
 fn digits_before(at: u32, count: usize, behind: &[u8]) -> Result<Token, SyntaxFault>
     requires { at + count ≤ MAX_TEXT }
     ensures value { result ≡ digits_before at count behind.now }
-    ensures end { IfOk result (λ token. token.end ≡ at + count) }
+    ensures end { IfOk result (λ token. (token.begin ≡ at) × (token.end ≡ at + count)) }
 {
     match behind {
         [b'a'..=b'z' | b'A'..=b'Z' | b'_', ..] => Err(SyntaxFault {
@@ -159,7 +161,7 @@ fn digits_before(at: u32, count: usize, behind: &[u8]) -> Result<Token, SyntaxFa
 fn quoted_at(alloc: Global, rest: &[u8], at: u32) -> Result<Token, SyntaxStop>
     requires { at + 1 + length rest.now ≤ MAX_TEXT }
     ensures value { Gives (λ token. token) fault_of result (quoted_at at (closing false rest.now) rest.now) }
-    ensures within { IfOk result (λ token. (at < token.end) × (token.end ≤ at + 1 + length rest.now)) }
+    ensures within { IfOk result (λ token. (token.begin ≡ at) × (at < token.end) × (token.end ≤ at + 1 + length rest.now)) }
 {
     let Some(count) = closing(rest) else {
         return Err(stop(SyntaxKind::OpenText, at));
@@ -173,7 +175,7 @@ fn quoted_at(alloc: Global, rest: &[u8], at: u32) -> Result<Token, SyntaxStop>
 fn sign_at(first: u8, rest: &[u8], at: u32) -> Result<Token, SyntaxFault>
     requires { at + 1 + length rest.now ≤ MAX_TEXT }
     ensures value { result ≡ sign_at at first rest.now }
-    ensures within { IfOk result (λ token. (at < token.end) × (token.end ≤ at + 1 + length rest.now)) }
+    ensures within { IfOk result (λ token. (token.begin ≡ at) × (at < token.end) × (token.end ≤ at + 1 + length rest.now)) }
 {
     if before_equals(first) && equals_first(rest) {
         Ok(token(TokenKind::Sign, at, 2))

@@ -1,6 +1,6 @@
 //! Quoted texts and their contents.
 
-ghost use Rattle.std.specs.Prelude.{◌≡◌, ◌+◌, ◌<◌, ◌≤◌, ◌++◌, length, option_map, OnOk, IfOk, IfSome, false};
+ghost use Rattle.std.specs.Prelude.{◌≡◌, ◌+◌, ◌^◌, ◌<◌, ◌≤◌, ◌++◌, length, option_map, OnOk, IfOk, IfSome, false};
 ghost use Rattle.std.specs.List.{prefix_len};
 ghost use Rattle.std.specs.String.{string_bytes};
 ghost use Rattle.contract_words.specs.Gives.{Gives};
@@ -123,7 +123,7 @@ fn plain_len(text: &[u8]) -> usize
 
 // The bytes that the text stands for whose first byte is at the place.
 fn unescape(alloc: Global, text: &[u8], at: u32) -> Result<Vec<u8>, SyntaxStop>
-    requires { at + length text.now ≤ MAX_TEXT }
+    requires { at + length text.now < 2 ^ 32 }
     ensures { Gives (λ bytes. bytes.items) fault_of result (unescaped 0 at text.now) }
 {
     let mut bytes = Vec::with_capacity(alloc, text.len())?;
@@ -158,7 +158,7 @@ fn between_quotes(quoted: &[u8]) -> &[u8]
 
 // The contents of what stands between quotes, the first of which is at the place.
 pub(crate) fn read_contents(alloc: Global, inside: &[u8], at: u32) -> Result<String, SyntaxStop>
-    requires { at + 1 + length inside.now ≤ MAX_TEXT }
+    requires { at + 1 + length inside.now < 2 ^ 32 }
     ensures { Gives string_bytes fault_of result (contents at inside.now) }
 {
     let bytes = unescape(alloc, inside, at + 1)?;
@@ -169,8 +169,9 @@ pub(crate) fn read_contents(alloc: Global, inside: &[u8], at: u32) -> Result<Str
 }
 
 /// The contents of a text with its quotes, the first of which is at the place.
+#[tactic(auto, unfolding(crate::specs::Quoted::text_of))]
 pub fn read_text(alloc: Global, quoted: &[u8], at: u32) -> Result<String, SyntaxStop>
-    requires { at + 1 + length quoted.now ≤ MAX_TEXT }
+    requires { at + length quoted.now ≤ MAX_TEXT }
     ensures { Gives string_bytes fault_of result (text_of at quoted.now) }
 {
     read_contents(alloc, between_quotes(quoted), at)

@@ -1,5 +1,6 @@
 use Rattle.std.proofs.Common.{◌∙◌, sym, arith}
-use Rattle.ottl_lex.specs.Tokens.{tokens_of}
+use Rattle.std.proofs.lemmas.List.Elements.{All-push}
+use Rattle.ottl_lex.specs.Tokens.{tokens_of, IsWithin}
 use Rattle.ottl_lex.proofs.Loop.{tokens-step}
 use Rattle.ottl_lex.proofs.lexer.lex.Goals as goal
 
@@ -12,6 +13,7 @@ tokens-preserved c =
     let back = c.split_at.ensures.back in
     let pushed = c.in_ok-push.ensures.ok in
     record {
-      reads = rw (pushed, back) (tokens-step here.tokens here.at here.rest.now (tokens_of c.args.text.now) token c.in-len1-up.len_at_least solid c.in_ok-token.ensures.value c.in_ok-token.ensures.within.0 here.invariant.reads);
-      room = omega (arith, c.split_at.ensures.back_len, c.in_ok-token.ensures.within.0, c.in_ok-token.ensures.within.1);
+      reads = rw (pushed, back) (tokens-step here.tokens here.at here.rest.now (tokens_of c.args.text.now) token c.in-len1-up.len_at_least solid c.in_ok-token.ensures.value c.in_ok-token.ensures.within.1 here.invariant.reads);
+      within = rw pushed (All-push (IsWithin c.args.text.now) here.tokens token here.invariant.within (omega (arith, c.in_ok-token.ensures.within.0, c.in_ok-token.ensures.within.1), omega (arith, c.in_ok-token.ensures.within.2, here.invariant.room)));
+      room = omega (arith, c.split_at.ensures.back_len, c.in_ok-token.ensures.within.1, c.in_ok-token.ensures.within.2);
     }
