@@ -1,12 +1,11 @@
 -- What stands where the lines ended is what the status says.
-use Rattle.std.proofs.Common.{◌≡◌, ◌∙◌, ◌+◌, ◌<◌, ◌≤◌, ◌++◌, [], ◌∷◌, List, ℕ, Bool, true, false, Option, Some, Result, Ok, Err, length, take, ◌⊎◌, inl, inr, ap, sym, refl, subst, arith, append-nil}
-use Rattle.contract_words.specs.Causes.{Rose}
+use Rattle.std.proofs.Common.{◌≡◌, ◌∙◌, ◌<◌, ◌++◌, [], ◌∷◌, List, ℕ, Some, Ok, Err, length, take, inl, inr, ap, sym, refl, subst, append-nil}
 use Rattle.contract_words.specs.Fronts.{IsFront, GrewByFront}
-use Rattle.contract_words.specs.Held.{Held, SameHeld, OthersStay}
+use Rattle.contract_words.specs.Held.{Held}
 use Rattle.contract_words.specs.InputLines.{Taken}
-use Rattle.collector.specs.Pass.{lines_in, passes_limit, pass_text, pass_notes, count_accepted, count_refused, summary_by, summary}
-use Rattle.collector.specs.Progress.{Stands, Fronts, LinesEnd, Blames}
-use Rattle.collector.specs.Ends.{AfterLines, AfterSome, Untouched, AfterFronts, Leaves, Tells, Faults, faults, SameFaults, Caused, NoneRose, Answers}
+use Rattle.collector.specs.Pass.{lines_in, pass_text, pass_notes, count_accepted, count_refused, summary_by, summary}
+use Rattle.collector.specs.Progress.{Stands, LinesEnd, Blames}
+use Rattle.collector.specs.Ends.{AfterLines, AfterSome, Leaves, Tells, Faults, faults, Caused, NoneRose, Answers}
 use Rattle.collector.specs.Lines.{status_of, Sums}
 use Rattle.collector.specs.declared.pass.Stop.{Stop}
 use Rattle.collector.specs.declared.pass.Stop.TheVariants as stop

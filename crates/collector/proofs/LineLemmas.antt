@@ -1,7 +1,7 @@
 -- From line to line: what was done, and what is left.
-use Rattle.std.proofs.Common.{◌≡◌, ◌∙◌, ◌+◌, ◌++◌, [], ◌∷◌, suc, List, ℕ, Bool, true, false, Option, Some, Result, Ok, Err, length, OnOk, ap, sym, refl, subst, arith, append_assoc, append-nil, length-append}
-use Rattle.contract_words.specs.Fronts.{IsFront, GrewByFront}
-use Rattle.contract_words.specs.Held.{Held, SameHeld, OthersStay}
+use Rattle.std.proofs.Common.{◌≡◌, ◌∙◌, ◌+◌, ◌++◌, [], ◌∷◌, List, ℕ, Some, Result, Ok, Err, length, OnOk, ap, sym, refl, subst, arith, append_assoc, append-nil}
+use Rattle.contract_words.specs.Fronts.{GrewByFront}
+use Rattle.contract_words.specs.Held.{Held, SameHeld}
 use Rattle.contract_words.specs.InputLines.{Taken, ended, too_long, line}
 use Rattle.collector.specs.Payload.{judged}
 use Rattle.collector.specs.Pass.{lines_in, passes_limit, text_by, note_by, accepted_by, refused_by, pass_text, pass_notes, count_accepted, count_refused}
@@ -11,7 +11,6 @@ use Rattle.collector.specs.Lines.{stop_of}
 use Rattle.collector.specs.Progress.{Holds, HoldsSome, Stands, Fronts, Gathers, LineText, LineNote, LineCounts, WriteBlames, LinesEnd}
 use Rattle.collector.specs.declared.pass.Stop.{Stop}
 use Rattle.collector.specs.declared.pass.Stop.TheVariants.{ReadFault, WriteFault, NoMemory, TooLong}
-use Rattle.collector.proofs.TextLemmas.{front_of_more}
 
 pub pass_text-append : (a b : List (List ℕ)) → pass_text (a ++ b) ≡ pass_text a ++ pass_text b
 pass_text-append [] b = refl

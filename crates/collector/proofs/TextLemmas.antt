@@ -1,7 +1,7 @@
 -- What OUT holds, step by step.
-use Rattle.std.proofs.Common.{◌≡◌, ◌∙◌, ◌++◌, [], ◌∷◌, List, ℕ, Option, Some, ap, sym, refl, append_assoc, append-nil}
+use Rattle.std.proofs.Common.{◌≡◌, ◌∙◌, ◌++◌, [], List, ℕ, ap, append_assoc, append-nil}
 use Rattle.contract_words.specs.Fronts.{IsFront}
-use Rattle.contract_words.specs.Held.{Held, SameHeld, AddsFront}
+use Rattle.contract_words.specs.Held.{Held, AddsFront}
 use Rattle.tele_io.specs.Calls.{Adds}
 use Rattle.collector.specs.Progress.{Holds, HoldsSome}
 

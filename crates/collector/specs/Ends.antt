@@ -1,8 +1,8 @@
 -- What stands after each end of a run of `pass`.
-use Rattle.std.specs.Prelude.{◌≡◌, ◌≤◌, ◌<◌, ◌++◌, ◌⊎◌, Bool, true, false, List, [], take, Option, Some, ℕ}
+use Rattle.std.specs.Prelude.{◌≡◌, ◌<◌, ◌++◌, ◌⊎◌, true, false, List, take, Some, ℕ}
 use Rattle.contract_words.specs.Causes.{Rose}
 use Rattle.contract_words.specs.Fronts.{IsFront, GrewByFront}
-use Rattle.contract_words.specs.Held.{Held, SameHeld, OthersStay}
+use Rattle.contract_words.specs.Held.{Held, SameHeld}
 use Rattle.contract_words.specs.InputLines.{Taken}
 use Rattle.collector.specs.Words.{usage_line}
 use Rattle.collector.specs.Pass.{lines_in, passes_limit, pass_text, pass_notes, count_refused, summary}

@@ -1,5 +1,5 @@
 -- What `pass` makes of the lines of an input.
-use Rattle.std.specs.Prelude.{◌+◌, suc, ◌++◌, Bool, true, false, List, [], ◌∷◌, length, Option, Result, Ok, Err, ℕ, codes}
+use Rattle.std.specs.Prelude.{◌+◌, ◌++◌, Bool, true, false, List, [], ◌∷◌, Result, Ok, Err, ℕ, codes}
 use Rattle.std.specs.Fmt.{decimal}
 use Rattle.contract_words.specs.Held.{Held, rest_from}
 use Rattle.contract_words.specs.InputLines.{Taken, ended, too_long, line, lines_of, taken_of}

@@ -1,5 +1,5 @@
 -- Inside a run of `pass`: what stands between two lines.
-use Rattle.std.specs.Prelude.{◌≡◌, ◌+◌, ◌≤◌, ◌++◌, ◌⊎◌, [], ◌∷◌, Bool, true, false, List, ℕ, Option, Some, None, Result, Ok, Err}
+use Rattle.std.specs.Prelude.{◌≡◌, ◌+◌, ◌≤◌, ◌++◌, ◌⊎◌, [], true, false, List, ℕ, Some, Result, Ok, Err}
 use Rattle.contract_words.specs.Causes.{Rose}
 use Rattle.contract_words.specs.Fronts.{IsFront, GrewByFront}
 use Rattle.contract_words.specs.Held.{Held}

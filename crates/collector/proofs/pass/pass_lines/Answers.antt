@@ -1,10 +1,9 @@
 -- What stands between two lines goes on over each call, and at each end gives what stands there.
-use Rattle.std.proofs.Common.{◌≡◌, ◌≢◌, ◌∙◌, ◌+◌, List, ℕ, Option, refl, sym, subst, arith}
-use Rattle.contract_words.specs.Held.{Held, SameHeld}
-use Rattle.contract_words.specs.InputLines.{Taken, line}
+use Rattle.std.proofs.Common.{◌≡◌, ◌≢◌, ◌∙◌, List, ℕ, Option, refl, sym, subst, arith}
+use Rattle.contract_words.specs.InputLines.{line}
 use Rattle.tele_io.specs.Mark.{Mark, IsAhead, left}
 use Rattle.collector.specs.Payload.{judged}
-use Rattle.collector.proofs.LineLemmas.{Going, one_of, going-begins, going-read, going-on, ends-in-line, ends-with-lines, ends-by-stop, ends-at-flush}
+use Rattle.collector.proofs.LineLemmas.{one_of, going-begins, going-read, going-on, ends-in-line, ends-with-lines, ends-by-stop, ends-at-flush}
 use Rattle.collector.proofs.pass.pass_lines.Goals as goal
 
 pub lines-init : goal.lines-init

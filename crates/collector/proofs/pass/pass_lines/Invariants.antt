@@ -1,6 +1,6 @@
 -- The lines taken so far are done: OUT holds their text, but for what is gathered, and the notes are theirs.
-use Rattle.std.proofs.Common.{◌≡◌, ◌+◌, ◌-◌, ◌≤◌, [], List, ℕ, Some, IsTrue}
-use Rattle.contract_words.specs.Held.{Held, OthersStay}
+use Rattle.std.proofs.Common.{◌≡◌, ◌+◌, ◌-◌, ◌≤◌, [], Some, IsTrue}
+use Rattle.contract_words.specs.Held.{OthersStay}
 use Rattle.tele_io.specs.Mark.{IsAhead, left}
 use Rattle.collector.proofs.LineLemmas.{Going}
 use Rattle.collector.proofs.pass.pass_lines.Given as goal

@@ -1,11 +1,11 @@
 -- The input is as it was when OUT had been created, so what the lines left is what the definition says of the input.
-use Rattle.std.proofs.Common.{◌≡◌, ◌∙◌, [], List, ℕ, Option, Some, inl, inr, refl, sym, subst, ap}
+use Rattle.std.proofs.Common.{◌≡◌, [], List, ℕ, Option, inl, inr, refl, subst, ap}
 use Rattle.contract_words.specs.Held.{Held}
 use Rattle.contract_words.specs.InputLines.{Taken}
-use Rattle.tele_io.specs.Mark.{Mark, IsAhead, left}
+use Rattle.tele_io.specs.Mark.{left}
 use Rattle.tele_io.specs.Reading.{Progress, start_of}
-use Rattle.collector.specs.Pass.{input_of, lines_in, pass_text, pass_notes, summary}
-use Rattle.collector.specs.Ends.{HoldsFront, Leaves}
+use Rattle.collector.specs.Pass.{input_of}
+use Rattle.collector.specs.Ends.{Leaves}
 use Rattle.collector.specs.Lines.{status_of}
 use Rattle.collector.proofs.EndLemmas.{leaves-by-stop, leaves-by-sum, grew-by-nothing, empty-front}
 use Rattle.collector.proofs.run.run_pass.Goals as goal
