@@ -1,5 +1,5 @@
--- A value by its kind: its text, the member of a body, and whether it is written yet.
-use Rattle.std.proofs.Common.{◌≡◌, ℕ, Bool, List, [], ◌∷◌, codes, ap, refl, subst, sym}
+-- A value by its kind: its text, the member of a body, and whether it is a text.
+use Rattle.std.proofs.Common.{◌≡◌, ℕ, Bool, List, [], ◌∷◌, codes, ap, subst, sym}
 use Rattle.std.specs.Prelude.{ℤ}
 use Rattle.pdata_value.specs.declared.values.Values.{Values}
 use Rattle.pdata_value.specs.declared.pairs.Pairs.{Pairs}

@@ -1,6 +1,6 @@
 -- The payload of a line (OTLP logs in the JSON encoding of protobuf), in the form that is built: objects, lists and texts
 -- alone, each known member once.
-use Rattle.std.specs.Prelude.{ℕ, ◌+◌, Bool, true, false, cond, not, ◌&&◌, ◌||◌, ◌==◌, nat_lt, nat_le, codes, count_by, replicate, pos, List, [], ◌∷◌, ◌++◌, Option, Some, None, Result, Ok, Err}
+use Rattle.std.specs.Prelude.{ℕ, Bool, cond, not, ◌&&◌, ◌||◌, ◌==◌, nat_lt, nat_le, codes, count_by, replicate, pos, List, [], ◌∷◌, Option, Some, None, Result, Ok, Err}
 use Rattle.std.specs.List.{list_all}
 use Rattle.std.specs.Str.{bytes_eq}
 use Rattle.pdata_value.specs.declared.value.Value.{Value}
@@ -17,7 +17,6 @@ use Rattle.json_text.specs.declared.json.JsonKind.TheOpen.{JsonKind-F}
 use Rattle.json_text.specs.declared.error.JsonFault.{JsonFault}
 use Rattle.otlp_json.specs.declared.error.PayloadKind.{PayloadKind}
 use Rattle.otlp_json.specs.declared.error.PayloadKind.TheVariants.{NotBuilt}
-use Rattle.otlp_json.specs.declared.error.PayloadFault.{PayloadFault}
 use Rattle.otlp_json.specs.declared.error.PayloadStop.{PayloadStop}
 use Rattle.otlp_json.specs.declared.error.PayloadStop.TheVariants.{Fault, NoMemory}
 
@@ -38,6 +37,7 @@ abbrev pub ◌>>=◌ : {A B : Type 0} → Built A → (A → Built B) → Built 
 
 -- JSON by its kind.
 
+-- the text that a kind holds; another kind isn't built
 abbrev pub text_layer : JsonKind-F JsonKind Json → Built (List ℕ)
 text_layer (JsonKind-F.Text text) = Ok text
 text_layer JsonKind-F.Null = Err NotBuilt
@@ -46,6 +46,7 @@ text_layer (JsonKind-F.Number spelling) = Err NotBuilt
 text_layer (JsonKind-F.List items) = Err NotBuilt
 text_layer (JsonKind-F.Object members) = Err NotBuilt
 
+-- the elements that a kind holds, likewise
 abbrev pub items_layer : JsonKind-F JsonKind Json → Built (List Json)
 items_layer (JsonKind-F.List items) = Ok items
 items_layer JsonKind-F.Null = Err NotBuilt
@@ -54,6 +55,7 @@ items_layer (JsonKind-F.Number spelling) = Err NotBuilt
 items_layer (JsonKind-F.Text text) = Err NotBuilt
 items_layer (JsonKind-F.Object members) = Err NotBuilt
 
+-- the members that a kind holds, likewise
 abbrev pub members_layer : JsonKind-F JsonKind Json → Built (List (List ℕ × Json))
 members_layer (JsonKind-F.Object members) = Ok members
 members_layer JsonKind-F.Null = Err NotBuilt
@@ -62,28 +64,31 @@ members_layer (JsonKind-F.Number spelling) = Err NotBuilt
 members_layer (JsonKind-F.Text text) = Err NotBuilt
 members_layer (JsonKind-F.List items) = Err NotBuilt
 
--- the text, list or object that a value is
+-- the text of a value that is one
 unfoldable pub text_by : JsonKind → Built (List ℕ)
 text_by kind = text_layer (out-JsonKind kind)
 
+-- the elements of a value that is a list
 unfoldable pub items_by : JsonKind → Built (List Json)
 items_by kind = items_layer (out-JsonKind kind)
 
+-- the members of a value that is an object
 unfoldable pub members_by : JsonKind → Built (List (List ℕ × Json))
 members_by kind = members_layer (out-JsonKind kind)
 
 -- Objects: their members are known, and none stands twice.
 
+-- the values of two members, each of which may be absent
 abbrev pub Slots : Type 0
 Slots = Option Json × Option Json
 
--- the one member that an object may have
+-- of members the one that may stand
 abbrev pub one_of : List ℕ → List (List ℕ × Json) → Built (Option Json)
 one_of key [] = Ok None
 one_of key (m ∷ []) = cond (bytes_eq m.0 key) (Ok (Some m.1)) (Err NotBuilt)
 one_of key (m ∷ n ∷ ms) = Err NotBuilt
 
--- the two members that an object may have, in either order
+-- of members the two that may stand, in either order
 abbrev pub two_of : List ℕ → List ℕ → List (List ℕ × Json) → Built Slots
 two_of first second [] = Ok (None, None)
 two_of first second (m ∷ []) =
@@ -93,9 +98,11 @@ two_of first second (m ∷ n ∷ []) =
     (cond (bytes_eq m.0 second && bytes_eq n.0 first) (Ok (Some n.1, Some m.1)) (Err NotBuilt))
 two_of first second (m ∷ n ∷ o ∷ ms) = Err NotBuilt
 
+-- the value of the one member that an object may have
 abbrev pub one_in : List ℕ → Json → Built (Option Json)
 one_in key json = members_by json.kind >>= one_of key
 
+-- the values of the two members that an object may have
 abbrev pub two_in : List ℕ → List ℕ → Json → Built Slots
 two_in first second json = members_by json.kind >>= two_of first second
 
@@ -116,17 +123,21 @@ list_in one (Some json) = items_by json.kind >>= each one
 
 -- The tables of OTLP logs.
 
+-- a text
 abbrev pub text_in : Json → Built (List ℕ)
 text_in json = text_by json.kind
 
+-- a value: its one member is a text
 unfoldable pub value_in : Json → Built Value
 value_in json = one_in (codes "stringValue") json >>= present >>= text_in >>= λ text. Ok (values.Text text)
 
+-- a pair: both members stand
 unfoldable pub pair_in : Json → Built (List ℕ × Value)
 pair_in json =
     two_in (codes "key") (codes "value") json >>= λ slots. present slots.0 >>= text_in
     >>= λ key. present slots.1 >>= value_in >>= λ value. Ok (key, value)
 
+-- attributes; absent ones are none
 unfoldable pub pairs_in : Option Json → Built Pairs
 pairs_in slot = list_in pair_in slot >>= λ pairs. Ok (record { items = pairs })
 
@@ -150,6 +161,7 @@ plain_record body attributes = record {
   span_id = replicate 8 0;
 }
 
+-- a log record
 unfoldable pub record_in : Json → Built LogRecord
 record_in json =
     two_in (codes "body") (codes "attributes") json >>= λ slots. body_in slots.0 >>= λ body. pairs_in slots.1
@@ -167,6 +179,7 @@ plain_scope attributes logs = record {
   logs = logs;
 }
 
+-- a scope element
 unfoldable pub scope_in : Json → Built ScopeTree
 scope_in json =
     two_in (codes "scope") (codes "logRecords") json >>= λ slots. attributes_in slots.0
@@ -179,17 +192,20 @@ plain_resource attributes scopes = record {
   scopes = scopes;
 }
 
+-- a resource element
 unfoldable pub resource_in : Json → Built ResourceTree
 resource_in json =
     two_in (codes "resource") (codes "scopeLogs") json >>= λ slots. attributes_in slots.0
     >>= λ attributes. list_in scope_in slots.1 >>= λ scopes. Ok (plain_resource attributes scopes)
 
+-- a payload
 unfoldable pub batch_in : Json → Built Batch
 batch_in json =
     one_in (codes "resourceLogs") json >>= list_in resource_in >>= λ resources. Ok (record { resources = resources })
 
 -- The line.
 
+-- a bracket or a brace that opens
 abbrev pub opens : ℕ → Bool
 opens b = b == 91 || b == 123
 
@@ -197,6 +213,7 @@ opens b = b == 91 || b == 123
 abbrev pub is_plain_line : List ℕ → Bool
 is_plain_line bytes = list_all (λ b. not (b == 92) && nat_lt b 128) bytes && nat_le (count_by opens bytes) 300
 
+-- the payload that JSON is; what isn't JSON isn't built
 abbrev pub built_of : Result Json JsonFault → Built Batch
 built_of (Ok json) = batch_in json
 built_of (Err fault) = Err NotBuilt

@@ -6,10 +6,12 @@ use std::fmt;
 /// The kind of a fault.
 #[derive(Clone, Copy, Debug, PartialEq, Eq)]
 pub enum PayloadKind {
-    /// The line is not of the form that is read: objects, lists and texts alone, each known member once.
+    /// The line is not of the form that is read: objects, lists and texts alone, each known member once, no backslash,
+    /// no byte from 128 up, and at most 300 brackets and braces that open.
     NotBuilt,
 }
 
+/// A fault of a line; no place is claimed.
 #[derive(Clone, Copy, Debug, PartialEq, Eq)]
 pub struct PayloadFault {
     pub kind: PayloadKind,

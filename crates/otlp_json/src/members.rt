@@ -1,6 +1,6 @@
 //! JSON by its kind, and the members of objects.
 
-ghost use Rattle.std.specs.Prelude.{◌≡◌, ◌∷◌, []};
+ghost use Rattle.std.specs.Prelude.{◌∷◌, []};
 ghost use Rattle.contract_words.specs.Gives.{Gives};
 ghost use Rattle.otlp_json.specs.Payload.{kind_of, text_by, items_by, members_by, one_in, two_in, two_of, present};
 

@@ -5,9 +5,7 @@ ghost use Rattle.std.specs.List.{All};
 ghost use Rattle.otlp_json.specs.Line.{IsPlainValue, IsPlainPairs, IsPlainBody, IsPlainRecord, IsPlainScope, IsPlainResource, IsPlain};
 ghost use Rattle.pdata_value.specs.declared.value.Value.{Value};
 ghost use Rattle.contract_words.specs.Gives.{Gives};
-ghost use Rattle.pdata_value.specs.Value.{pairs};
-ghost use Rattle.otlp_json.specs.Payload as spec;
-ghost use Rattle.otlp_json.specs.Payload.{kind_of, text_in, value_in, pair_in, pairs_in, body_in, record_in, attributes_in, scope_in, resource_in, batch_in, list_in, each, is_plain_line, payload};
+ghost use Rattle.otlp_json.specs.Payload.{kind_of, value_in, pair_in, pairs_in, body_in, record_in, attributes_in, scope_in, resource_in, batch_in, list_in, each, is_plain_line, payload};
 
 use crate::error::{NOT_BUILT, PayloadStop};
 use crate::members::{items_of, one_member, present, text_of, two_members};
@@ -51,10 +49,7 @@ fn each_pair(alloc: Global, items: Items) -> Result<ItemList<(Text, Value)>, Pay
 {
     let mut list = ItemList::new(alloc);
     for json in items.into_vec() {
-        match pair_of(json) {
-            Ok(pair) => list.push(pair)?,
-            Err(stop) => return Err(stop),
-        }
+        list.push(pair_of(json)?)?;
     }
     Ok(list)
 }
@@ -112,10 +107,7 @@ fn each_record(alloc: Global, items: Items) -> Result<Logs, PayloadStop>
 {
     let mut logs = ItemList::new(alloc);
     for json in items.into_vec() {
-        match record_of(alloc, json) {
-            Ok(record) => logs.push(record)?,
-            Err(stop) => return Err(stop),
-        }
+        logs.push(record_of(alloc, json)?)?;
     }
     Ok(logs)
 }
@@ -164,10 +156,7 @@ fn each_scope(alloc: Global, items: Items) -> Result<Scopes, PayloadStop>
 {
     let mut scopes = ItemList::new(alloc);
     for json in items.into_vec() {
-        match scope_of(alloc, json) {
-            Ok(scope) => scopes.push(scope)?,
-            Err(stop) => return Err(stop),
-        }
+        scopes.push(scope_of(alloc, json)?)?;
     }
     Ok(scopes)
 }
@@ -204,10 +193,7 @@ fn each_resource(alloc: Global, items: Items) -> Result<Resources, PayloadStop>
 {
     let mut resources = ItemList::new(alloc);
     for json in items.into_vec() {
-        match resource_of(alloc, json) {
-            Ok(resource) => resources.push(resource)?,
-            Err(stop) => return Err(stop),
-        }
+        resources.push(resource_of(alloc, json)?)?;
     }
     Ok(resources)
 }

@@ -1,9 +1,8 @@
 //! Writes payloads in their one form.
 
 ghost use Rattle.std.specs.Prelude.{◌≡◌, ◌++◌, ◌∷◌, [], codes, map, if◌then◌else◌, IfOk, OnOk};
-ghost use Rattle.pdata_value.specs.Value.{pairs};
 ghost use Rattle.json_text.specs.Writing.{listed_from, member_text};
-ghost use Rattle.otlp_json.specs.Line.{IsPlain, object_text, list_member, value_text, pair_text, attributes_member, body_member, record_text, scope_text, resource_text, line};
+ghost use Rattle.otlp_json.specs.Line.{IsPlain, list_member, value_text, pair_text, attributes_member, body_member, record_text, scope_text, resource_text, line};
 
 use json_text::{push_comma_before, push_text};
 use pdata_tree::{Batch, LogRecord, ResourceTree, ScopeTree};

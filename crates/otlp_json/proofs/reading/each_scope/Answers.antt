@@ -9,6 +9,6 @@ pub loop-json-preserved : goal.loop-json-preserved
 loop-json-preserved c =
     let first : c.loop-json.json-iterator.rest.items ≡ c.in-Some.json ∷ c.next.new.self.rest.items = search rules in
     record {
-      reads = each-pushed scope_in _ _ _ _ _ _ _ c.loop-json.invariant.reads first c.in-Ok.ensures.value c.in_ok-push-in-Ok.ensures.ok;
-      plain = All-pushed IsPlainScope _ _ _ c.loop-json.invariant.plain c.in-Ok.ensures.plain c.in_ok-push-in-Ok.ensures.ok;
+      reads = each-pushed scope_in _ _ _ _ _ _ _ c.loop-json.invariant.reads first c.in_ok-scope_of.ensures.value c.in_ok-push.ensures.ok;
+      plain = All-pushed IsPlainScope _ _ _ c.loop-json.invariant.plain c.in_ok-scope_of.ensures.plain c.in_ok-push.ensures.ok;
     }
