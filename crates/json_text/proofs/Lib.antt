@@ -12,3 +12,8 @@ pub mod Whole
 pub mod Fitting
 pub mod Law
 pub mod Numbers
+pub mod Layers
+pub mod TextBack
+pub mod NumberBack
+pub mod ValueBack
+pub mod RoundTrip

@@ -1,10 +1,14 @@
 //! Laws on reading and writing.
 
 ghost use Rattle.std.specs.Prelude.{◌≡◌, ◌<◌, ◌≤◌, ℕ, List, IsOk, Ok, Err};
+ghost use Rattle.std.specs.List.{All};
 ghost use Rattle.std.specs.Str.{IsUtf8};
 ghost use Rattle.contract_words.specs.Grammar.{spells};
+ghost use Rattle.pdata_value.specs.Numeral.{IsNumeral};
 ghost use Rattle.json_text.specs.Grammar.{json, IsLongestViable};
+ghost use Rattle.json_text.specs.Placed.{containers, placed};
 ghost use Rattle.json_text.specs.Reading.{json_text};
+ghost use Rattle.json_text.specs.Writing.{numbers_of, text_of};
 ghost use Rattle.json_text.specs.declared.json.Json.{Json};
 ghost use Rattle.json_text.specs.declared.error.JsonFault.TheVariants.{BadJson, TooDeep};
 
@@ -22,4 +26,10 @@ pub fn reading_is_the_grammar()
         → IsLongestViable (json depth) bytes at }
     ensures deeper_goes_on { (bytes : List ℕ) (depth at deeper : ℕ) → json_text bytes depth ≡ Err (TooDeep at) → depth < deeper
         → (count : ℕ) × (at < count) × IsLongestViable (json deeper) bytes count }
+{}
+
+/// What is written is read again as the value written, with the places of the new text.
+pub fn written_is_read()
+    ensures { (value : Json) (depth : ℕ) → containers value ≤ depth → All IsNumeral (numbers_of value) → IsUtf8 (text_of value)
+        → json_text (text_of value) depth ≡ Ok (placed 0 value) }
 {}
