@@ -1,7 +1,7 @@
 -- Values by their kinds, and what the folds over them give.
 use Rattle.std.proofs.Common.{◌≡◌, ◌∙◌, ℕ, ◌+◌, Bool, max, List, [], ◌∷◌, ◌++◌, map, refl, sym, ap}
 use Rattle.std.specs.Prelude.{codes}
-use Rattle.json_text.specs.Writing.{quoted_text, truth_text, listed_from, member_text, joined, numbers_step, numbers_step_json, numbers_of}
+use Rattle.json_text.specs.Writing.{quoted_text, truth_text, listed_from, member_text, joined, numbers_step, numbers_step_json, numbers_of, texts_step, texts_step_json, texts_of}
 use Rattle.json_text.specs.Placed.{Placing, placed_items, placed_members, placing_step, placing_step_json, placing, largest, containers_step, containers_step_json, containers}
 use Rattle.json_text.specs.declared.json.Json.{Json}
 use Rattle.json_text.specs.declared.json.JsonKind.{JsonKind, roll-JsonKind, out-JsonKind}
@@ -146,3 +146,44 @@ module _ (json : Json) where
       placing json ≡ (codes "{" ++ listed_from 0 (map member_text (map (λ (m : List ℕ × Placing Json). (m.0, m.1.0)) ps)) ++ codes "}", λ at. record { at = at; kind = kinds.Object (placed_members (at + 1) ps) })
   unfolding placing kind_placing with_kind
   placing-Object ms is = placing-kind json ∙ ap with_kind (ap kind_placing (is ∙ sym (kinds.rolls-Object ms)) ∙ fold-roll-JsonKind (Placing JsonKind) (Placing Json) placing_step placing_step_json (JsonKind-F.Object ms))
+
+-- The texts and keys in a value.
+kind_texts : JsonKind → List (List ℕ)
+kind_texts = fold-JsonKind (List (List ℕ)) (List (List ℕ)) texts_step texts_step_json
+
+texts_of-kind : (json : Json) → texts_of json ≡ kind_texts json.kind
+unfolding texts_of kind_texts
+texts_of-kind json = fold_out-Json (List (List ℕ)) (List (List ℕ)) texts_step texts_step_json json
+
+pub texts-Text : (json : Json) (s : List ℕ) → json.kind ≡ kinds.Text s → texts_of json ≡ s ∷ []
+unfolding kind_texts
+texts-Text json s is =
+    texts_of-kind json ∙ ap kind_texts (is ∙ sym (kinds.rolls-Text s)) ∙ fold-roll-JsonKind (List (List ℕ)) (List (List ℕ)) texts_step texts_step_json (JsonKind-F.Text s)
+
+abbrev pub item_texts : List Json → List (List ℕ)
+item_texts [] = []
+item_texts (j ∷ js) = texts_of j ++ item_texts js
+
+abbrev pub member_texts : List (List ℕ × Json) → List (List ℕ)
+member_texts [] = []
+member_texts (m ∷ ms) = m.0 ∷ (texts_of m.1 ++ member_texts ms)
+
+joined_texts : (js : List Json) → joined (map texts_of js) ≡ item_texts js
+joined_texts [] = refl
+joined_texts (j ∷ js) = ap (λ (t : List (List ℕ)). texts_of j ++ t) (joined_texts js)
+
+joined_keys : (ms : List (List ℕ × Json)) → joined (map (λ (m : List ℕ × List (List ℕ)). m.0 ∷ m.1) (map (λ (m : List ℕ × Json). (m.0, texts_of m.1)) ms)) ≡ member_texts ms
+joined_keys [] = refl
+joined_keys (m ∷ ms) = ap (λ (t : List (List ℕ)). m.0 ∷ (texts_of m.1 ++ t)) (joined_keys ms)
+
+pub texts-List : (json : Json) (js : List Json) → json.kind ≡ kinds.List js → texts_of json ≡ item_texts js
+unfolding texts_of kind_texts
+texts-List json js is =
+    fold_out-Json (List (List ℕ)) (List (List ℕ)) texts_step texts_step_json json ∙ ap kind_texts (is ∙ sym (kinds.rolls-List js))
+    ∙ fold-roll-JsonKind (List (List ℕ)) (List (List ℕ)) texts_step texts_step_json (JsonKind-F.List js) ∙ joined_texts js
+
+pub texts-Object : (json : Json) (ms : List (List ℕ × Json)) → json.kind ≡ kinds.Object ms → texts_of json ≡ member_texts ms
+unfolding texts_of kind_texts
+texts-Object json ms is =
+    fold_out-Json (List (List ℕ)) (List (List ℕ)) texts_step texts_step_json json ∙ ap kind_texts (is ∙ sym (kinds.rolls-Object ms))
+    ∙ fold-roll-JsonKind (List (List ℕ)) (List (List ℕ)) texts_step texts_step_json (JsonKind-F.Object ms) ∙ joined_keys ms

@@ -17,3 +17,4 @@ pub mod TextBack
 pub mod NumberBack
 pub mod ValueBack
 pub mod RoundTrip
+pub mod Utf8

@@ -19,11 +19,11 @@ use Rattle.json_text.proofs.Whole.{spelled_of_run, run_of_spelled}
 use Rattle.json_text.proofs.TextBack.{rest_at}
 
 -- Each byte of what a rule spells is of a kind.
-abbrev Each : (ℕ → Bool) → List ℕ → Type 0
+abbrev pub Each : (ℕ → Bool) → List ℕ → Type 0
 Each kind [] = Unit {0}
 Each kind (b ∷ bs) = (kind b ≡ true) × Each kind bs
 
-abbrev Only : (ℕ → Bool) → Rule → Type 0
+abbrev pub Only : (ℕ → Bool) → Rule → Type 0
 Only kind nothing = Unit {0}
 Only kind (byte p) = (b : ℕ) → p b ≡ true → kind b ≡ true
 Only kind (alt l r) = Only kind l × Only kind r
@@ -38,7 +38,7 @@ each_turns : (kind : ℕ → Bool) (a : Rule) → ((w : List ℕ) → spells a w
 each_turns kind a below zero w t = subst (Each kind) (sym t) tt
 each_turns kind a below (suc n) w t = subst (Each kind) (sym t.4) (each_both kind t.0 t.1 (below t.0 t.2) (each_turns kind a below n t.1 t.3))
 
-each_spelled : (kind : ℕ → Bool) (r : Rule) → Only kind r → (w : List ℕ) → spells r w → Each kind w
+pub each_spelled : (kind : ℕ → Bool) (r : Rule) → Only kind r → (w : List ℕ) → spells r w → Each kind w
 each_spelled kind nothing o w s = subst (Each kind) (sym s) tt
 each_spelled kind (byte p) o w s = subst (Each kind) (sym s.2) (o s.0 s.1, tt)
 each_spelled kind (alt l r) o w (inl s) = each_spelled kind l o.0 w s
@@ -47,10 +47,10 @@ each_spelled kind (seq l r) o w s = subst (Each kind) (sym s.4) (each_both kind 
 each_spelled kind (many a) o w s = each_turns kind a (each_spelled kind a o) s.0 w s.1
 
 -- the bytes of numerals
-abbrev numeric : ℕ → Bool
+abbrev pub numeric : ℕ → Bool
 numeric b = is_digit b || ((b == 46) || (is_e b || is_sign b))
 
-numeral_only : Only numeric numeral
+pub numeral_only : Only numeric numeral
 numeral_only = ((minus, tt), ((zero_digit, (lead, digit)), (((point, (digit, digit)), tt), ((letter, ((sign, tt), (digit, digit))), tt)))) where
   minus : (b : ℕ) → (b == 45) ≡ true → numeric b ≡ true
   minus b h = grind (arith, nat_tests)

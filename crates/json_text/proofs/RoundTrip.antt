@@ -56,15 +56,15 @@ same_text zero json le = text_by_kind zero (λ below e. absurd (omega (arith, e)
 same_text (suc d) json le = text_by_kind (suc d) (λ below e. subst SameText (let same : d ≡ below = omega (arith, e) in same) (same_text d)) json le (kind_of json.kind)
 
 -- Each number is a numeral.
-abbrev Numerals : List (List ℕ) → Type 0
+abbrev pub Numerals : List (List ℕ) → Type 0
 Numerals [] = Unit {0}
 Numerals (s ∷ ss) = IsNumeral s × Numerals ss
 
-numerals_of : (ss : List (List ℕ)) → All IsNumeral ss → Numerals ss
+pub numerals_of : (ss : List (List ℕ)) → All IsNumeral ss → Numerals ss
 numerals_of [] h = tt
 numerals_of (s ∷ ss) h = (h 0 s (omega arith), numerals_of ss (λ k d within. h (suc k) d (omega arith)))
 
-numerals_parts : (xs ys : List (List ℕ)) → Numerals (xs ++ ys) → Numerals xs × Numerals ys
+pub numerals_parts : (xs ys : List (List ℕ)) → Numerals (xs ++ ys) → Numerals xs × Numerals ys
 numerals_parts [] ys h = (tt, h)
 numerals_parts (x ∷ xs) ys h = let below = numerals_parts xs ys h.1 in ((h.0, below.0), below.1)
 
@@ -279,5 +279,5 @@ whole_read depth json le numbers =
     ∙ ap (λ (r : Rest). value depth r >>= λ p. ended p.0 (blanks p.1)) (starts_blanks 0 text [] (text_starts json ns))
     ∙ ap (λ (r : Reads Json). r >>= λ p. ended p.0 (blanks p.1)) read
 
-pub written_read : (json : Json) (depth : ℕ) → containers json ≤ depth → All IsNumeral (numbers_of json) → IsUtf8 (text_of json) → json_text (text_of json) depth ≡ Ok (placed 0 json)
-written_read json depth le numbers utf8 = json_text-utf8 (text_of json) (text_of json) refl utf8 depth ∙ whole_read depth json le numbers
+pub text_read : (json : Json) (depth : ℕ) → containers json ≤ depth → All IsNumeral (numbers_of json) → IsUtf8 (text_of json) → json_text (text_of json) depth ≡ Ok (placed 0 json)
+text_read json depth le numbers utf8 = json_text-utf8 (text_of json) (text_of json) refl utf8 depth ∙ whole_read depth json le numbers

@@ -8,7 +8,7 @@ ghost use Rattle.pdata_value.specs.Numeral.{IsNumeral};
 ghost use Rattle.json_text.specs.Grammar.{json, IsLongestViable};
 ghost use Rattle.json_text.specs.Placed.{containers, placed};
 ghost use Rattle.json_text.specs.Reading.{json_text};
-ghost use Rattle.json_text.specs.Writing.{numbers_of, text_of};
+ghost use Rattle.json_text.specs.Writing.{numbers_of, texts_of, text_of};
 ghost use Rattle.json_text.specs.declared.json.Json.{Json};
 ghost use Rattle.json_text.specs.declared.error.JsonFault.TheVariants.{BadJson, TooDeep};
 
@@ -30,6 +30,6 @@ pub fn reading_is_the_grammar()
 
 /// What is written is read again as the value written, with the places of the new text.
 pub fn written_is_read()
-    ensures { (value : Json) (depth : ℕ) → containers value ≤ depth → All IsNumeral (numbers_of value) → IsUtf8 (text_of value)
+    ensures { (value : Json) (depth : ℕ) → containers value ≤ depth → All IsNumeral (numbers_of value) → All IsUtf8 (texts_of value)
         → json_text (text_of value) depth ≡ Ok (placed 0 value) }
 {}
