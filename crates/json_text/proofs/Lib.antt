@@ -18,3 +18,4 @@ pub mod NumberBack
 pub mod ValueBack
 pub mod RoundTrip
 pub mod Utf8
+pub mod Deeper
