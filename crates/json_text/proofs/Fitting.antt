@@ -190,7 +190,7 @@ module _ (next : ℕ → Bool) (apart : (b : ℕ) → numeric b ≡ true → nex
     sign_apart : (b : ℕ) → (is_sign b || false) ≡ true → ((is_digit b || (false && is_digit b)) || (false && next b)) ≡ true → ⊥
     sign_apart b h k = grind (arith, nat_tests)
 
-  numeral_fits : fits numeral next
+  pub numeral_fits : fits numeral next
   numeral_fits = (
     byte_optional (λ b. b == 45) (λ b. first (seq int (seq (optional frac) (optional exp))) b || (false && next b)),
     (λ null b. minus_apart b),
@@ -205,7 +205,7 @@ abbrev after_value : ℕ → Bool
 after_value b = is_blank b || ((b == 44) || ((b == 93) || (b == 125)))
 
 -- how a value begins
-abbrev opening : ℕ → Bool
+abbrev pub opening : ℕ → Bool
 opening b = (b == 34) || ((b == 45) || (is_digit b || ((b == 116) || ((b == 102) || ((b == 110) || ((b == 91) || (b == 123)))))))
 
 numeric_apart : (b : ℕ) → numeric b ≡ true → after_value b ≡ true → ⊥

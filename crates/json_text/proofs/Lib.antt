@@ -12,3 +12,10 @@ pub mod Whole
 pub mod Fitting
 pub mod Law
 pub mod Numbers
+pub mod Layers
+pub mod TextBack
+pub mod NumberBack
+pub mod ValueBack
+pub mod RoundTrip
+pub mod Utf8
+pub mod Deeper

@@ -134,7 +134,7 @@ module _ (deeper : Bool) where
   exponent_at rs at [] = goes_on (run (optional exp ∷ rs) []) (record { at = at; left = [] }) rs refl
   exponent_at rs at (x ∷ xs) = exponent_case rs at x xs (is_e x) refl
 
-  number_end_follows : (rs : List Rule) (r : Rest) → Follows here deeper 1 (run (numeral ∷ rs) r.left) r rs (number_end r)
+  pub number_end_follows : (rs : List Rule) (r : Rest) → Follows here deeper 1 (run (numeral ∷ rs) r.left) r rs (number_end r)
   unfolding number_end
   number_end_follows rs r =
       let start = passed (λ b. b == 45) r in

@@ -56,7 +56,7 @@ one_of-not kind r is = cond-false (kind (head r)) _ _ is
 no_escape : (r : Rest) → (head r == 92) ≡ false → piece r ≡ (one_of is_plain r >>= λ p. Ok (p.0 ∷ [], p.1))
 no_escape r slash = cond-false (head r == 92) _ _ slash
 
-abbrev goes_on : ℕ → List ℕ × Rest → Reads (List ℕ)
+abbrev pub goes_on : ℕ → List ℕ × Rest → Reads (List ℕ)
 goes_on n p = with_front p.0 (text n p.1)
 
 no_quote : (n : ℕ) (r : Rest) → (head r == 34) ≡ false → text (suc n) r ≡ (piece r >>= goes_on n)
@@ -148,7 +148,7 @@ turn_of : (count turns : ℕ) → count < turns → (t : ℕ) × (turns ≡ suc 
 turn_of count zero h = absurd (omega arith)
 turn_of count (suc t) h = (t, refl)
 
-text-quote : (t : ℕ) (r : Rest) → head r ≡ 34 → text (suc t) r ≡ Ok ([], past 1 r)
+pub text-quote : (t : ℕ) (r : Rest) → head r ≡ 34 → text (suc t) r ≡ Ok ([], past 1 r)
 unfolding text
 text-quote t r quote = rw quote refl
 
@@ -160,10 +160,10 @@ text-bad t r quote slash plain =
     no_quote t r (differs (head r) 34 quote)
     ∙ ap (λ (m : Reads (List ℕ)). m >>= goes_on t) (no_escape r (differs (head r) 92 slash) ∙ ap (λ (m : Reads ℕ). m >>= λ p. Ok (p.0 ∷ [], p.1)) (one_of-not is_plain r plain))
 
-abbrev in_utf8 : ℕ × Rest → Reads (List ℕ)
+abbrev pub in_utf8 : ℕ × Rest → Reads (List ℕ)
 in_utf8 p = Ok (encode_utf8 p.0, p.1)
 
-text-escape : (t : ℕ) (r : Rest) → head r ≡ 92 → text (suc t) r ≡ (escape (past 1 r) >>= in_utf8 >>= goes_on t)
+pub text-escape : (t : ℕ) (r : Rest) → head r ≡ 92 → text (suc t) r ≡ (escape (past 1 r) >>= in_utf8 >>= goes_on t)
 unfolding text
 text-escape t r slash = rw slash refl
 
@@ -227,12 +227,12 @@ pub record ElementsSoFar {X : Type 0} (one : Rest → Reads X) (close n : ℕ) (
   pub reads : sequence one close n start ≡ with_front found (elements one close turns here)
 
 module _ {X : Type 0} (one : Rest → Reads X) (close : ℕ) where
-  elements-goes : (t : ℕ) (here mid after : Rest) (x : X) → one here ≡ Ok (x, mid) → comma_or close (blanks mid) ≡ Ok (true, after)
+  pub elements-goes : (t : ℕ) (here mid after : Rest) (x : X) → one here ≡ Ok (x, mid) → comma_or close (blanks mid) ≡ Ok (true, after)
       → elements one close (suc t) here ≡ with_front (x ∷ []) (elements one close t after)
   unfolding elements
   elements-goes t here mid after x read comma = rw (read, comma) refl
 
-  elements-end : (t : ℕ) (here mid after : Rest) (x : X) → one here ≡ Ok (x, mid) → comma_or close (blanks mid) ≡ Ok (false, after)
+  pub elements-end : (t : ℕ) (here mid after : Rest) (x : X) → one here ≡ Ok (x, mid) → comma_or close (blanks mid) ≡ Ok (false, after)
       → elements one close (suc t) here ≡ Ok (x ∷ [], after)
   unfolding elements
   elements-end t here mid after x read comma = rw (read, comma) refl

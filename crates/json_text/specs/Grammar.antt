@@ -82,3 +82,13 @@ pub record IsLongestViable (rule : Rule) (text : List ℕ) (count : ℕ) : Type 
   pub within : count ≤ length text
   pub begun : viable rule (take count text)
   pub no_longer : (more : ℕ) → count < more → more ≤ length text → viable rule (take more text) → ⊥
+
+-- the text is a viable prefix of JSON, however deep that nests
+abbrev pub IsJsonPrefix : List ℕ → Type 0
+IsJsonPrefix text = (depth : ℕ) × viable (json depth) text
+
+-- the longest prefix of the text that is viable, however deep, has this length
+pub record IsLongestPrefix (text : List ℕ) (count : ℕ) : Type 0 where
+  pub within : count ≤ length text
+  pub begun : IsJsonPrefix (take count text)
+  pub no_longer : (more : ℕ) → count < more → more ≤ length text → IsJsonPrefix (take more text) → ⊥

@@ -3,5 +3,6 @@ pub mod Place
 pub mod Reading
 pub mod Writing
 pub mod Grammar
+pub mod Placed
 -- Inside this crate: what stands between two places.
 pub mod Spelled

@@ -77,3 +77,16 @@ numbers_step_json json = json.kind
 
 unfoldable pub numbers_of : Json → List (List ℕ)
 numbers_of = fold-Json (List (List ℕ)) (List (List ℕ)) numbers_step numbers_step_json
+
+-- the texts and keys in a value
+abbrev pub texts_step : JsonKind-F (List (List ℕ)) (List (List ℕ)) → List (List ℕ)
+texts_step (JsonKind-F.Text text) = text ∷ []
+texts_step (JsonKind-F.List below) = joined below
+texts_step (JsonKind-F.Object below) = joined (map (λ (m : List ℕ × List (List ℕ)). m.0 ∷ m.1) below)
+texts_step _ = []
+
+abbrev pub texts_step_json : Json-F (List (List ℕ)) (List (List ℕ)) → List (List ℕ)
+texts_step_json json = json.kind
+
+unfoldable pub texts_of : Json → List (List ℕ)
+texts_of = fold-Json (List (List ℕ)) (List (List ℕ)) texts_step texts_step_json

@@ -14,7 +14,7 @@ mod writer;
 
 pub use error::JsonFault;
 pub use json::{Items, Json, JsonKind, Members};
-pub use laws::reading_is_the_grammar;
+pub use laws::{reading_is_the_grammar, written_is_read};
 pub use reader::read;
 pub use writer::{push_comma_before, push_json, push_text, write};
 
