@@ -49,7 +49,7 @@ fn each_pair(alloc: Global, items: Items) -> Result<ItemList<(Text, Value)>, Pay
     ensures value { Gives (λ list. list) kind_of result (each pair_in items) }
     ensures plain { IfOk result (All (λ (pair : List ℕ × Value). IsPlainValue pair.1)) }
 {
-    let mut list = ItemList::new(alloc);
+    let mut list = ItemList::with_capacity(alloc, items.len())?;
     for json in items.into_vec() {
         match pair_of(json) {
             Ok(pair) => list.push(pair)?,
@@ -110,7 +110,7 @@ fn each_record(alloc: Global, items: Items) -> Result<Logs, PayloadStop>
     ensures value { Gives (λ logs. logs) kind_of result (each record_in items) }
     ensures plain { IfOk result (All IsPlainRecord) }
 {
-    let mut logs = ItemList::new(alloc);
+    let mut logs = ItemList::with_capacity(alloc, items.len())?;
     for json in items.into_vec() {
         match record_of(alloc, json) {
             Ok(record) => logs.push(record)?,
@@ -162,7 +162,7 @@ fn each_scope(alloc: Global, items: Items) -> Result<Scopes, PayloadStop>
     ensures value { Gives (λ scopes. scopes) kind_of result (each scope_in items) }
     ensures plain { IfOk result (All IsPlainScope) }
 {
-    let mut scopes = ItemList::new(alloc);
+    let mut scopes = ItemList::with_capacity(alloc, items.len())?;
     for json in items.into_vec() {
         match scope_of(alloc, json) {
             Ok(scope) => scopes.push(scope)?,
@@ -202,7 +202,7 @@ fn each_resource(alloc: Global, items: Items) -> Result<Resources, PayloadStop>
     ensures value { Gives (λ resources. resources) kind_of result (each resource_in items) }
     ensures plain { IfOk result (All IsPlainResource) }
 {
-    let mut resources = ItemList::new(alloc);
+    let mut resources = ItemList::with_capacity(alloc, items.len())?;
     for json in items.into_vec() {
         match resource_of(alloc, json) {
             Ok(resource) => resources.push(resource)?,
