@@ -1,12 +1,8 @@
 //! `pass`: each accepted payload of an input is written in its one form.
 
-ghost use Rattle.std.specs.Prelude.{◌≡◌, ◌≢◌, ◌+◌, ◌<◌, ◌≤◌, ◌⊎◌, ◌++◌, true, false, [], List, ℕ, OnOk, OnErr, IfErr, IsTrue, Some, codes, length};
-ghost use Rattle.contract_words.specs.Causes.{Rose, HasCause};
-ghost use Rattle.contract_words.specs.Held.{Held, SameHeld, OthersStay, AddsFront};
-ghost use Rattle.tele_io.specs.Calls.{Adds};
+ghost use Rattle.std.specs.Prelude.{◌≡◌, ◌≢◌, ◌+◌, ◌<◌, ◌≤◌, [], OnOk, OnErr, IsTrue, Some, length};
+ghost use Rattle.contract_words.specs.Held.{OthersStay};
 ghost use Rattle.tele_io.specs.Mark.{IsAhead, left};
-ghost use Rattle.collector.specs.Pass.{input_of, lines_in, passes_limit, note_by, accepted_by, refused_by};
-ghost use Rattle.collector.specs.Payload.{judged};
 ghost use Rattle.collector.specs.Progress.{Gathers, LineText, LineNote, LineCounts, LineBlames, WriteBlames, Notes, NoteBlames, Blames, LinesEnd};
 
 use crate::payload::rewrite;

@@ -4,16 +4,17 @@ ghost use Rattle.std.specs.Prelude.{◌≡◌, ◌++◌, ◌∷◌, [], ◌≤�
 ghost use Rattle.otlp_json.specs.Line.{IsPlain, line};
 ghost use Rattle.collector.specs.Progress.{Rewrites};
 
-use otlp_json::{PayloadStop, read_payload, write_line};
+use otlp_json::{PayloadStop, push_line, read_payload};
 use pdata_tree::Batch;
 use std::alloc::{AllocError, Global};
 
-// The line of a payload, with a newline.
-fn written(alloc: Global, batch: &Batch) -> Result<Vec<u8>, AllocError>
+// The line of a payload, with a newline. It is as long as the room, or nearly so.
+fn written(alloc: Global, batch: &Batch, room: usize) -> Result<Vec<u8>, AllocError>
     requires { IsPlain batch.now }
     ensures { IfOk result (λ bytes. bytes.items ≡ line batch.now ++ 10 ∷ []) }
 {
-    let mut bytes = write_line(alloc, batch)?;
+    let mut bytes = Vec::with_capacity(alloc, room)?;
+    push_line(&mut bytes, batch)?;
     bytes.push(b'\n')?;
     Ok(bytes)
 }
@@ -27,7 +28,7 @@ pub fn rewrite(alloc: Global, line: &[u8], text: &mut Vec<u8>) -> Result<(), Pay
         Ok(batch) => batch,
         Err(stop) => return Err(stop),
     };
-    let bytes = written(alloc, &batch)?;
+    let bytes = written(alloc, &batch, line.len() + 1)?;
     text.extend_from_slice(bytes.as_slice())?;
     Ok(())
 }

@@ -1,6 +1,6 @@
 //! The runs of the commands.
 
-ghost use Rattle.std.specs.Prelude.{◌≡◌, ◌≢◌, ◌+◌, ◌≤◌, ◌++◌};
+ghost use Rattle.std.specs.Prelude.{◌≡◌, ◌≢◌, ◌+◌, ◌≤◌};
 ghost use Rattle.contract_words.specs.Held.{OthersStay};
 ghost use Rattle.collector.specs.Pass.{input_of};
 ghost use Rattle.collector.specs.Ends.{Leaves, Tells, faults, Caused, NoneRose, Answers};

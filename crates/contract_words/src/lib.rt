@@ -1,7 +1,7 @@
 //! The words that contracts of all crates share, and laws on grammars.
 #![tactic(auto)]
 
-ghost use Rattle.std.specs.Prelude.{◌≡◌, ◌∷◌, ◌++◌, [], List, ℕ};
+ghost use Rattle.std.specs.Prelude.{◌++◌, List, ℕ};
 ghost use Rattle.contract_words.specs.Grammar.{Rule, spells, viable};
 ghost use Rattle.contract_words.specs.Rows.{fits_row, stop, IsLongest};
 

@@ -5,8 +5,8 @@ ghost use Rattle.std.specs.List.{prefix_len};
 ghost use Rattle.std.specs.Str.{IsCharBoundary};
 ghost use Rattle.contract_words.specs.Gives.{Gives};
 ghost use Rattle.pdata_value.specs.Numeral.{is_digit};
-ghost use Rattle.json_text.specs.Place.{head, past, behind, is_blank, blanks};
-ghost use Rattle.json_text.specs.Reading.{this, these, fault_of, is_plain};
+ghost use Rattle.json_text.specs.Place.{head, past, behind, blanks};
+ghost use Rattle.json_text.specs.Reading.{this, fault_of, is_plain};
 
 use crate::error::JsonFault;
 use crate::scan::{blank_len, digit_len, plain_len};

@@ -1,6 +1,6 @@
 //! Texts with their quotes (RFC 8259, section 7).
 
-ghost use Rattle.std.specs.Prelude.{◌≡◌, ◌<◌, ◌≤◌, ℕ, length, string_bytes, OnOk};
+ghost use Rattle.std.specs.Prelude.{◌<◌, ◌≤◌, ℕ, length, string_bytes, OnOk};
 ghost use Rattle.contract_words.specs.Gives.{Gives};
 ghost use Rattle.json_text.specs.Reading as spec;
 ghost use Rattle.json_text.specs.Reading.{with_front, fault_of};

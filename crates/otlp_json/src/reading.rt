@@ -1,16 +1,17 @@
 //! Reads payloads.
 
-ghost use Rattle.std.specs.Prelude.{◌≡◌, ◌≤◌, ℕ, List, IfOk, length};
-ghost use Rattle.std.specs.List.{All};
+ghost use Rattle.std.specs.Prelude.{◌≡◌, ◌==◌, ◌≤◌, ◌&&◌, ℕ, List, IfOk, length, not, nat_lt, count_by};
+ghost use Rattle.std.specs.List.{All, list_all};
 ghost use Rattle.otlp_json.specs.Line.{IsPlainValue, IsPlainPairs, IsPlainBody, IsPlainRecord, IsPlainScope, IsPlainResource, IsPlain};
 ghost use Rattle.pdata_value.specs.declared.value.Value.{Value};
 ghost use Rattle.contract_words.specs.Gives.{Gives};
-ghost use Rattle.otlp_json.specs.Payload.{kind_of, value_in, pair_in, pairs_in, body_in, record_in, attributes_in, scope_in, resource_in, batch_in, list_in, each, is_plain_line, payload};
+ghost use Rattle.otlp_json.specs.Payload.{kind_of, value_in, pair_in, pairs_in, body_in, record_in, attributes_in, scope_in, resource_in, batch_in, list_in, each, opens, is_plain_line, payload};
 
 use crate::error::{NOT_BUILT, PayloadStop};
 use crate::members::{items_of, one_member, present, text_of, two_members};
 use item_list::ItemList;
 use json_text::{Items, Json, JsonFault, read};
+use memchr::{memchr, memchr2_iter};
 use pdata_tree::{
     Batch, LogRecord, Logs, ResourceNode, ResourceTree, Resources, ScopeNode, ScopeTree, Scopes,
 };
@@ -21,7 +22,7 @@ use std::alloc::Global;
 const DEPTH: u32 = 300;
 
 /// At most so many brackets and braces open in a line.
-const OPENING: u32 = 300;
+const OPENING: usize = 300;
 
 #[tactic(auto, using(crate::proofs::Values::plain_values), unfolding(crate::specs::Payload::value_in))]
 fn value_of(json: Json) -> Result<Value, PayloadStop>
@@ -47,7 +48,7 @@ fn each_pair(alloc: Global, items: Items) -> Result<ItemList<(Text, Value)>, Pay
     ensures value { Gives (λ list. list) kind_of result (each pair_in items) }
     ensures plain { IfOk result (All (λ (pair : List ℕ × Value). IsPlainValue pair.1)) }
 {
-    let mut list = ItemList::new(alloc);
+    let mut list = ItemList::with_capacity(alloc, items.len())?;
     for json in items.into_vec() {
         list.push(pair_of(json)?)?;
     }
@@ -105,7 +106,7 @@ fn each_record(alloc: Global, items: Items) -> Result<Logs, PayloadStop>
     ensures value { Gives (λ logs. logs) kind_of result (each record_in items) }
     ensures plain { IfOk result (All IsPlainRecord) }
 {
-    let mut logs = ItemList::new(alloc);
+    let mut logs = ItemList::with_capacity(alloc, items.len())?;
     for json in items.into_vec() {
         logs.push(record_of(alloc, json)?)?;
     }
@@ -154,7 +155,7 @@ fn each_scope(alloc: Global, items: Items) -> Result<Scopes, PayloadStop>
     ensures value { Gives (λ scopes. scopes) kind_of result (each scope_in items) }
     ensures plain { IfOk result (All IsPlainScope) }
 {
-    let mut scopes = ItemList::new(alloc);
+    let mut scopes = ItemList::with_capacity(alloc, items.len())?;
     for json in items.into_vec() {
         scopes.push(scope_of(alloc, json)?)?;
     }
@@ -191,7 +192,7 @@ fn each_resource(alloc: Global, items: Items) -> Result<Resources, PayloadStop>
     ensures value { Gives (λ resources. resources) kind_of result (each resource_in items) }
     ensures plain { IfOk result (All IsPlainResource) }
 {
-    let mut resources = ItemList::new(alloc);
+    let mut resources = ItemList::with_capacity(alloc, items.len())?;
     for json in items.into_vec() {
         resources.push(resource_of(alloc, json)?)?;
     }
@@ -217,21 +218,36 @@ fn batch_of(alloc: Global, json: Json) -> Result<Batch, PayloadStop>
     Ok(Batch { resources })
 }
 
+// Whether no byte is a backslash, or from 128 up.
+fn has_plain_bytes(line: &[u8]) -> bool
+    ensures { result ≡ list_all (λ b. not (b == 92) && nat_lt b 128) line.now }
+{
+    if !line.is_ascii() {
+        return false;
+    }
+    match memchr(b'\\', line) {
+        Some(_) => false,
+        None => true,
+    }
+}
+
+// How many brackets and braces open, those in texts included.
+fn count_opening(line: &[u8]) -> usize
+    ensures { result ≡ count_by opens line.now }
+{
+    let mut found = memchr2_iter(b'[', b'{', line);
+    let mut count = 0;
+    'places: while found.next().is_some() {
+        count += 1;
+    }
+    count
+}
+
 // Whether the line has no backslash, no byte from 128 up, and few enough bytes that open.
 fn is_plain(line: &[u8]) -> bool
-    requires { length line.now ≤ 16777216 }
     ensures { result ≡ is_plain_line line.now }
 {
-    let mut opening = 0u32;
-    for byte in line {
-        if *byte == b'\\' || *byte >= 128 {
-            return false;
-        }
-        if *byte == b'[' || *byte == b'{' {
-            opening += 1;
-        }
-    }
-    opening <= OPENING
+    has_plain_bytes(line) && count_opening(line) <= OPENING
 }
 
 /// The payload that the line is.

@@ -4,7 +4,7 @@ ghost use Rattle.std.specs.Prelude.{◌≡◌, ◌+◌, ◌-◌, ◌<◌, ◌≤
 ghost use Rattle.contract_words.specs.Gives.{Gives};
 ghost use Rattle.ottl_lex.specs.Names.{fault_of};
 ghost use Rattle.ottl_lex.specs.Quoted.{closing};
-ghost use Rattle.ottl_lex.specs.Tokens.{is_blank, lower_at, is_keyword, number_at, hex_at, hex_first, digits_before, digit_first, in_word, quoted_at, sign_at, is_sign, before_equals, equals_first, token, token_at, tokens_of, IsWithin};
+ghost use Rattle.ottl_lex.specs.Tokens.{is_blank, lower_at, is_keyword, number_at, hex_at, hex_first, digits_before, digit_first, quoted_at, sign_at, is_sign, before_equals, equals_first, token, token_at, tokens_of, IsWithin};
 
 use crate::fault::{SyntaxFault, SyntaxKind, SyntaxStop, stop};
 use crate::lengths::{digits_len, hex_len, lower_len, upper_len};

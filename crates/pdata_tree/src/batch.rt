@@ -1,7 +1,7 @@
 //! Whole payloads.
 
 ghost use Rattle.std.specs.Prelude.{◌≡◌, ◌^◌, ◌<◌, IfOk};
-ghost use Rattle.pdata_tree.specs.Tree.{IsCountable, nodes, nodes_of_resources, nodes_of_scopes, records, records_of_resources, records_of_scopes};
+ghost use Rattle.pdata_tree.specs.Tree.{IsCountable, nodes, nodes_of_scopes, records, records_of_resources, records_of_scopes};
 
 use crate::resource::ResourceTree;
 use crate::scope::ScopeTree;

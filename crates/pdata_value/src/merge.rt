@@ -1,7 +1,6 @@
 //! Removing pairs of a map, and merging one map into another.
 
 ghost use Rattle.std.specs.Prelude.{◌≡◌, ◌+◌, ◌<◌, ◌≤◌, OnOk, OnErr, vec_len, vec_capacity, not};
-ghost use Rattle.std.specs.Str.{bytes_eq};
 ghost use Rattle.pdata_value.specs.Value.{pairs as pairs_of};
 ghost use Rattle.pdata_value.specs.Pairs.{has_key, is_listed, kept, merged, put, put_all, takes, without};
 

@@ -1,7 +1,7 @@
 //! Doubles by their spelling.
 
-ghost use Rattle.std.specs.Prelude.{◌≡◌, ◌↔◌, length, string_bytes, IfOk, OnOk, IsErrOf};
-ghost use Rattle.pdata_value.specs.Numeral.{IsNumeral, IsSpelling};
+ghost use Rattle.std.specs.Prelude.{◌≡◌, ◌↔◌, length, IfOk, OnOk, IsErrOf};
+ghost use Rattle.pdata_value.specs.Numeral.{IsSpelling};
 ghost use Rattle.pdata_value.specs.declared.spelling.SpellingStop.TheVariants.{NoMemory};
 
 use crate::numeral::is_spelling;

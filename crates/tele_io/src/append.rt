@@ -1,9 +1,9 @@
 //! Adding all the bytes, piece by piece, without taking memory.
 
-ghost use Rattle.std.specs.Prelude.{◌≡◌, ◌++◌, ℕ, List, [], OnOk, IsOk};
+ghost use Rattle.std.specs.Prelude.{◌≡◌, ◌++◌, [], OnOk, IsOk};
 ghost use Rattle.contract_words.specs.Causes.{HasCause, Rose};
 ghost use Rattle.contract_words.specs.Fronts.{GrewByFront};
-ghost use Rattle.contract_words.specs.Held.{Held, AddsFront};
+ghost use Rattle.contract_words.specs.Held.{AddsFront};
 ghost use Rattle.tele_io.specs.Calls.{Adds};
 
 use crate::disk::{Disk, DiskFault};

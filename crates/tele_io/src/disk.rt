@@ -1,6 +1,6 @@
 //! A disk: bytes under names, where it tells them, and how often its calls failed.
 
-ghost use Rattle.std.specs.Prelude.{◌≡◌, ◌+◌, ◌<◌, ◌≤◌, ◌^◌, ◌⊎◌, ℕ, List, [], Some, IfOk, OnOk, OnErr, length};
+ghost use Rattle.std.specs.Prelude.{◌≡◌, ◌+◌, ◌<◌, ◌≤◌, ◌^◌, ◌⊎◌, ℕ, [], Some, IfOk, OnOk, OnErr, length};
 ghost use Rattle.contract_words.specs.Causes.{HasCause};
 ghost use Rattle.contract_words.specs.Held.{Held, SameHeld, OthersStay, Appended};
 ghost use Rattle.tele_io.specs.Calls.{PutsBytes};

@@ -1,6 +1,6 @@
 //! Bytes of a file that were read ahead.
 
-ghost use Rattle.std.specs.Prelude.{◌≡◌, ◌+◌, ◌++◌, ◌≤◌, ◌<◌, ◌^◌, ◌==◌, ℕ, List, [], IsSome, IfOk, OnOk, OnErr, length, take, drop, slice_range};
+ghost use Rattle.std.specs.Prelude.{◌≡◌, ◌+◌, ◌++◌, ◌≤◌, ◌<◌, ◌^◌, ◌==◌, ℕ, List, [], IsSome, IfOk, OnOk, OnErr, length, drop, slice_range};
 ghost use Rattle.contract_words.specs.Causes.{HasCause};
 ghost use Rattle.contract_words.specs.Held.{SameHeld, rest_from};
 

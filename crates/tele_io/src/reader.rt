@@ -1,6 +1,6 @@
 //! Cutting lines out of what is read ahead.
 
-ghost use Rattle.std.specs.Prelude.{◌≡◌, ◌+◌, ◌++◌, ◌≤◌, ◌<◌, ◌^◌, ◌==◌, ℕ, List, [], IsSome, IfOk, IfSome, OnOk, OnErr, length, take, drop, string_bytes};
+ghost use Rattle.std.specs.Prelude.{◌≡◌, ◌+◌, ◌++◌, ◌≤◌, ◌<◌, ◌==◌, [], IsSome, IfOk, IfSome, OnOk, length, take, drop, string_bytes};
 ghost use Rattle.contract_words.specs.Causes.{HasCause};
 ghost use Rattle.contract_words.specs.Held.{SameHeld, rest_from};
 ghost use Rattle.tele_io.specs.Mark.{Mark, SameLines, IsAhead};

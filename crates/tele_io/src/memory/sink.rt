@@ -1,6 +1,6 @@
 //! A sink in memory.
 
-ghost use Rattle.std.specs.Prelude.{◌≡◌, ◌++◌, [], length, IsErr, IfOk, IsTrue, OnOk, OnErr};
+ghost use Rattle.std.specs.Prelude.{◌≡◌, ◌++◌, length, IsErr, IfOk, IsTrue, OnOk, OnErr};
 ghost use Rattle.contract_words.specs.Causes.{HasCause};
 ghost use Rattle.tele_io.specs.Memory.{empty_stream, called, fails_next, planned};
 
