@@ -1,11 +1,11 @@
 -- What stands where the lines ended is what the status says.
-use Rattle.std.proofs.Common.{◌≡◌, ◌∙◌, ◌<◌, ◌++◌, [], ◌∷◌, List, ℕ, Some, Ok, Err, length, take, inl, inr, ap, sym, refl, subst, append-nil}
+use Rattle.std.proofs.Common.{◌≡◌, ◌∙◌, ◌++◌, [], ◌∷◌, List, ℕ, Some, Ok, Err, length, take, inr, ap, sym, refl, subst, append-nil}
 use Rattle.contract_words.specs.Fronts.{IsFront, GrewByFront}
 use Rattle.contract_words.specs.Held.{Held}
 use Rattle.contract_words.specs.InputLines.{Taken}
 use Rattle.collector.specs.Pass.{lines_in, pass_text, pass_notes, count_accepted, count_refused, summary_by, summary}
-use Rattle.collector.specs.Progress.{Stands, LinesEnd, Blames}
-use Rattle.collector.specs.Ends.{AfterLines, AfterSome, Leaves, Tells, Faults, faults, Caused, NoneRose, Answers}
+use Rattle.collector.specs.Progress.{Stands, LinesEnd}
+use Rattle.collector.specs.Ends.{AfterLines, AfterSome, Leaves}
 use Rattle.collector.specs.Lines.{status_of, Sums}
 use Rattle.collector.specs.declared.pass.Stop.{Stop}
 use Rattle.collector.specs.declared.pass.Stop.TheVariants as stop
@@ -58,19 +58,10 @@ module _ (Disk Notes : Type 0) (input : Taken) (output : List ℕ) (old new : He
     out = grew-by-nothing (summary (lines_in input)) out out refl;
   }
 
-  pub tells-by-stop : (e : Stop) → LinesEnd {T = Unit {0}} Disk Notes input output new notes_old notes_new accepted refused (Err e) → Disk → Tells (status_of e) input
-  tells-by-stop stop.ReadFault ends told = tt
-  tells-by-stop stop.NoMemory ends told = tt
-  tells-by-stop stop.WriteFault ends told = tt
-  tells-by-stop stop.TooLong ends told = ends.2 told
-
   summed : (done : List (List ℕ)) → Stands Disk Notes input output new notes_old notes_new accepted refused done [] → Disk → summary_by accepted refused ≡ summary (lines_in input)
   summed done s told =
       let is : done ≡ lines_in input = sym (s.lines told ∙ append-nil done) in
       ap (λ (n : ℕ). summary_by n refused) (s.accepted_is ∙ ap count_accepted is) ∙ ap (λ (n : ℕ). summary_by (count_accepted (lines_in input)) n) (s.refused_is ∙ ap count_refused is)
-
-  refused-of : (done : List (List ℕ)) → Stands Disk Notes input output new notes_old notes_new accepted refused done [] → Disk → refused ≡ count_refused (lines_in input)
-  refused-of done s told = s.refused_is ∙ ap count_refused (sym (s.lines told ∙ append-nil done))
 
   pub leaves-by-sum : (Out : Type 0) (status : Status) (out_old out_new : List ℕ) (out_faults out_faults_now : ℕ)
       → LinesEnd {T = Unit {0}} Disk Notes input output new notes_old notes_new accepted refused (Ok tt) → Sums Out status accepted refused out_old out_new out_faults out_faults_now → Disk → Out → Notes
@@ -95,45 +86,3 @@ module _ (Disk Notes : Type 0) (input : Taken) (output : List ℕ) (old new : He
   leaves-by-sum Out Usage out_old out_new out_faults out_faults_now ends sums told out_told note_told = absurd sums
   leaves-by-sum Out ReadFault out_old out_new out_faults out_faults_now ends sums told out_told note_told = absurd sums
   leaves-by-sum Out TooLong out_old out_new out_faults out_faults_now ends sums told out_told note_told = absurd sums
-
-  pub tells-by-sum : (Out : Type 0) (status : Status) (out_old out_new : List ℕ) (out_faults out_faults_now : ℕ)
-      → LinesEnd {T = Unit {0}} Disk Notes input output new notes_old notes_new accepted refused (Ok tt) → Sums Out status accepted refused out_old out_new out_faults out_faults_now → Disk → Tells status input
-  tells-by-sum Out Done out_old out_new out_faults out_faults_now ends sums told = (ends.2 told, sym (refused-of ends.0 ends.1 told) ∙ sums.0)
-  tells-by-sum Out SomeRefused out_old out_new out_faults out_faults_now ends sums told =
-      let is = refused-of ends.0 ends.1 told in (ends.2 told, subst (λ (n : ℕ). 0 < n) is sums.0)
-  tells-by-sum Out NoMemory out_old out_new out_faults out_faults_now ends sums told = tt
-  tells-by-sum Out WriteFault out_old out_new out_faults out_faults_now ends sums told = tt
-  tells-by-sum Out Usage out_old out_new out_faults out_faults_now ends sums told = absurd sums
-  tells-by-sum Out ReadFault out_old out_new out_faults out_faults_now ends sums told = absurd sums
-  tells-by-sum Out TooLong out_old out_new out_faults out_faults_now ends sums told = absurd sums
-
--- the counts that the lines and the summary left
-module _ (reads reads_now writes writes_now out out_now notes notes_now : ℕ) where
-  pub cause-by-stop : (e : Stop) → Blames {T = Unit {0}} reads reads_now writes writes_now notes notes_now (Err e) → Caused (status_of e) (faults reads writes out notes) (faults reads_now writes_now out_now notes_now)
-  cause-by-stop stop.ReadFault blames = blames
-  cause-by-stop stop.NoMemory blames = tt
-  cause-by-stop stop.TooLong blames = tt
-  cause-by-stop stop.WriteFault (inl h) = inl h
-  cause-by-stop stop.WriteFault (inr h) = inr (inr h)
-
-  pub cause-by-sum : (Out : Type 0) (status : Status) (accepted refused : ℕ) (out_old out_new : List ℕ) → Blames {T = Unit {0}} reads reads_now writes writes_now notes notes_now (Ok tt)
-      → Sums Out status accepted refused out_old out_new out out_now → Caused status (faults reads writes out notes) (faults reads_now writes_now out_now notes_now)
-  cause-by-sum Out Done accepted refused out_old out_new blames sums = record { reads = blames.0; writes = blames.1; out = sums.2; notes = blames.2 }
-  cause-by-sum Out SomeRefused accepted refused out_old out_new blames sums = record { reads = blames.0; writes = blames.1; out = sums.2; notes = blames.2 }
-  cause-by-sum Out NoMemory accepted refused out_old out_new blames sums = tt
-  cause-by-sum Out WriteFault accepted refused out_old out_new blames sums = inr (inl sums.1)
-  cause-by-sum Out Usage accepted refused out_old out_new blames sums = absurd sums
-  cause-by-sum Out ReadFault accepted refused out_old out_new blames sums = absurd sums
-  cause-by-sum Out TooLong accepted refused out_old out_new blames sums = absurd sums
-
--- a status that its count and the input tell of is the one that is answered where no count rose
-pub answers : (status : Status) (input : Taken) (old new : Faults) → Tells status input → Caused status old new → NoneRose old new → Answers status input
-answers Done input old new tells caused none = tells
-answers SomeRefused input old new tells caused none = tells
-answers TooLong input old new tells caused none = tells
-answers NoMemory input old new tells caused none = tt
-answers Usage input old new tells caused none = absurd tells
-answers ReadFault input old new tells caused none = absurd (none.reads caused)
-answers WriteFault input old new tells (inl h) none = absurd (none.writes h)
-answers WriteFault input old new tells (inr (inl h)) none = absurd (none.out h)
-answers WriteFault input old new tells (inr (inr h)) none = absurd (none.notes h)

@@ -19,16 +19,6 @@ number_of WriteFault = 5
 number_of NoMemory = 6
 number_of TooLong = 7
 
--- the input was read to its end, and all was written
-abbrev pub IsComplete : Status → Type 0
-IsComplete Done = Unit {0}
-IsComplete SomeRefused = Unit {0}
-IsComplete Usage = ⊥
-IsComplete ReadFault = ⊥
-IsComplete WriteFault = ⊥
-IsComplete NoMemory = ⊥
-IsComplete TooLong = ⊥
-
 -- these lines were passed: OUT holds their text, and their notes were written
 pub record AfterLines (lines : List (List ℕ)) (output : List ℕ) (new : Held) (notes_old notes_new : List ℕ) : Type 0 where
   pub text : new output ≡ Some (pass_text lines)

@@ -1,5 +1,5 @@
 -- Faults of a device, and the counts that tell of them.
-use Rattle.std.specs.Prelude.{◌≡◌, ◌+◌, ◌-◌, ◌^◌, ◌≤◌, ℕ, min, Bool, IsTrue, Result, OnOk, OnErr, IfErr}
+use Rattle.std.specs.Prelude.{◌≡◌, ◌+◌, ◌-◌, ◌^◌, ◌≤◌, ℕ, min, Result, OnOk, OnErr}
 
 -- a count is greater after a call than before it, or stands at the end of its range
 abbrev pub Rose : ℕ → ℕ → Type 0
@@ -9,10 +9,4 @@ Rose before now = min (before + 1) (2 ^ 64 - 1) ≤ now
 pub record HasCause {T E : Type 0} (before now : ℕ) (result : Result T E) : Type 0 where
   pub later : before ≤ now
   pub failed : OnErr result (Rose before now)
-  pub kept : OnOk result (now ≡ before)
-
--- the same of a call of which only some errors are the device's
-pub record HasCauseOf {T E : Type 0} (is_fault : E → Bool) (before now : ℕ) (result : Result T E) : Type 0 where
-  pub later : before ≤ now
-  pub failed : IfErr result (λ e. IsTrue (is_fault e) → Rose before now)
   pub kept : OnOk result (now ≡ before)

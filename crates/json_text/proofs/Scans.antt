@@ -14,9 +14,6 @@ pub record GoesOn (kind : ℕ → Bool) (bytes : List ℕ) (count : ℕ) : Type 
   pub so_far : prefix_len kind bytes ≡ count + prefix_len kind (drop count bytes)
   pub within : count ≤ length bytes
 
-pub GoesOn-begin : (kind : ℕ → Bool) (bytes : List ℕ) → GoesOn kind bytes 0
-GoesOn-begin kind bytes = record { so_far = omega arith; within = omega arith }
-
 rest_of : (kind : ℕ → Bool) (bytes : List ℕ) (count : ℕ) → count < length bytes → kind (get_or bytes count 0) ≡ true
     → prefix_len kind (drop count bytes) ≡ 1 + prefix_len kind (drop (suc count) bytes)
 rest_of kind bytes count within is = rw (drop-cons bytes count 0, is) refl
@@ -32,19 +29,6 @@ past_end kind [] zero end = refl
 past_end kind [] (suc count) end = refl
 past_end kind (x ∷ xs) zero end = absurd (omega arith)
 past_end kind (x ∷ xs) (suc count) end = past_end kind xs count (omega arith)
-
-pub GoesOn-step : (kind : ℕ → Bool) (bytes : List ℕ) (count : ℕ) → GoesOn kind bytes count → count < length bytes → kind (get_or bytes count 0) ≡ true
-    → GoesOn kind bytes (count + 1)
-GoesOn-step kind bytes count so_far within is =
-    let next : prefix_len kind (drop count bytes) ≡ 1 + prefix_len kind (drop (count + 1) bytes) = rw add-one (rest_of kind bytes count within is) in
-    record { so_far = omega (arith, so_far.so_far, next); within = omega arith }
-
-pub GoesOn-stop : (kind : ℕ → Bool) (bytes : List ℕ) (count : ℕ) → GoesOn kind bytes count → kind (get_or bytes count 0) ≡ false
-    → count ≡ prefix_len kind bytes
-GoesOn-stop kind bytes count so_far is = omega (arith, so_far.so_far, stops_at kind bytes count is)
-
-pub GoesOn-end : (kind : ℕ → Bool) (bytes : List ℕ) (count : ℕ) → GoesOn kind bytes count → length bytes ≤ count → count ≡ prefix_len kind bytes
-GoesOn-end kind bytes count so_far end = omega (arith, so_far.so_far, past_end kind bytes count end)
 
 -- each byte that was passed is ASCII
 ascii_step : (kind : ℕ → Bool) → ((b : ℕ) → kind b ≡ true → b < 128) → (x : ℕ) (xs : List ℕ) → ((n : ℕ) → n < prefix_len kind xs → get_or xs n 0 < 128)

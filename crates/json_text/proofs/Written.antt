@@ -130,9 +130,6 @@ take_rest bytes start count is =
 pub record ListedSoFar (before : List ℕ) (texts : List (List ℕ)) (index : ℕ) (now : List ℕ) : Type 0 where
   pub written : now ++ listed_from index (drop index texts) ≡ before ++ listed_from 0 texts
 
-pub ListedSoFar-begin : (before : List ℕ) (texts : List (List ℕ)) → ListedSoFar before texts 0 before
-ListedSoFar-begin before texts = record { written = refl }
-
 listed-more : (texts : List (List ℕ)) (index : ℕ) (text : List ℕ) → index < length texts → get_or texts index [] ≡ text
     → listed_from index (drop index texts) ≡ comma_before index ++ text ++ listed_from (suc index) (drop (suc index) texts)
 listed-more texts index text within is = ap (listed_from index) (drop-cons texts index [] within) ∙ ap (λ (t : List ℕ). comma_before index ++ t ++ listed_from (suc index) (drop (suc index) texts)) is

@@ -270,6 +270,3 @@ is_spelled text h =
 pub spelled_is : (text : List ℕ) → IsSpelling text → is_spelling text ≡ true
 spelled_is text s =
     of_any (is_numeral text) (bytes_eq text (codes "NaN")) (bytes_eq text (codes "Infinity")) (bytes_eq text (codes "-Infinity")) (spelled_found text s)
-
-pub not_spelled : (text : List ℕ) → is_spelling text ≡ false → IsSpelling text → ⊥
-not_spelled text h s = let is = spelled_is text s in cc

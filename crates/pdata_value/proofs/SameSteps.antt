@@ -76,6 +76,3 @@ within_keys (k ∷ ks) ps qs h f =
 -- once all keys of one map are alike, the other needs to have no further key
 pub same_pairs-within : (ps qs : Map) → same_keys ps ps qs ≡ true → same_pairs ps qs ≡ keys_within qs ps
 same_pairs-within ps qs h = ap (λ b. b && same_keys qs ps qs) h ∙ within_keys qs ps qs h (λ key w. w)
-
-pub same_pairs-differ : (ps qs : Map) → same_keys ps ps qs ≡ false → same_pairs ps qs ≡ false
-same_pairs-differ ps qs h = ap (λ b. b && same_keys qs ps qs) h

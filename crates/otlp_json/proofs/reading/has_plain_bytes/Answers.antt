@@ -1,5 +1,5 @@
 -- A place of a backslash is one of a byte that isn't plain; where there is none, all are plain.
-use Rattle.std.proofs.Common.{◌≡◌, ◌∙◌, ◌&&◌, ◌==◌, not, nat_lt, sym, ap, arith, slice_index}
+use Rattle.std.proofs.Common.{◌∙◌, ◌&&◌, ◌==◌, not, nat_lt, sym, ap, arith, slice_index}
 use Rattle.std.proofs.lemmas.List.Folds.{list_all_at}
 use Rattle.std.proofs.lemmas.List.Sums.{list_all-from_AllPass}
 use Rattle.std.proofs.lemmas.Grind.{get_or_default_zero}
