@@ -60,7 +60,9 @@ impl Progress {
 
     /// Appends what was gathered.
     fn flush<D: Disk>(&mut self, output: &str, disk: &mut D) -> Result<(), Stop>
-        ensures text { D.tells disk.old → Gathers output.now self.old.gathered.items self.new.gathered.items (D.held disk.old) (D.held disk.new) result }
+        ensures text { D.tells disk.old
+            → Gathers output.now self.old.gathered.items self.new.gathered.items (D.held disk.old)
+            (D.held disk.new) result }
         ensures emptied { OnOk result (self.new.gathered.items ≡ []) }
         // When a fault comes.
         ensures blame { WriteBlames (D.write_faults disk.old) (D.write_faults disk.new) result }
@@ -83,7 +85,9 @@ impl Progress {
     /// Counts an accepted line, whose text is gathered.
     fn accept<D: Disk>(&mut self, output: &str, disk: &mut D) -> Result<(), Stop>
         requires { self.old.accepted + self.old.refused < 1000000 }
-        ensures text { D.tells disk.old → Gathers output.now self.old.gathered.items self.new.gathered.items (D.held disk.old) (D.held disk.new) result }
+        ensures text { D.tells disk.old
+            → Gathers output.now self.old.gathered.items self.new.gathered.items (D.held disk.old)
+            (D.held disk.new) result }
         // When a fault comes.
         ensures blame { WriteBlames (D.write_faults disk.old) (D.write_faults disk.new) result }
         // What stays.
@@ -112,7 +116,9 @@ impl Progress {
         ensures accepted { self.new.accepted ≡ self.old.accepted }
         ensures refused { OnOk result (self.new.refused ≡ self.old.refused + 1) }
         ensures unchanged { OnErr result (self.new.refused ≡ self.old.refused) }
-        ensures note { N.tells notes.old → Notes (self.old.accepted + self.old.refused + 1) fault (N.held notes.old) (N.held notes.new) result }
+        ensures note { N.tells notes.old
+            → Notes (self.old.accepted + self.old.refused + 1) fault (N.held notes.old)
+            (N.held notes.new) result }
         // When a fault comes.
         ensures cause { NoteBlames (N.faults notes.old) (N.faults notes.new) result }
         ensures tells { N.tells notes.old → N.tells notes.new }
@@ -140,11 +146,17 @@ impl Progress {
     ) -> Result<(), Stop>
         requires room { self.old.accepted + self.old.refused < 1000000 }
         requires short { length line.now ≤ 16777216 }
-        ensures text { D.tells disk.old → LineText output.now line.now self.old.gathered.items self.new.gathered.items (D.held disk.old) (D.held disk.new) result }
-        ensures note { N.tells notes.old → LineNote (self.old.accepted + self.old.refused + 1) line.now (N.held notes.old) (N.held notes.new) result }
-        ensures counts { LineCounts line.now self.old.accepted self.new.accepted self.old.refused self.new.refused result }
+        ensures text { D.tells disk.old
+            → LineText output.now line.now self.old.gathered.items self.new.gathered.items
+            (D.held disk.old) (D.held disk.new) result }
+        ensures note { N.tells notes.old
+            → LineNote (self.old.accepted + self.old.refused + 1) line.now (N.held notes.old)
+            (N.held notes.new) result }
+        ensures counts { LineCounts line.now self.old.accepted self.new.accepted self.old.refused
+            self.new.refused result }
         // When a fault comes.
-        ensures blame { LineBlames (D.write_faults disk.old) (D.write_faults disk.new) (N.faults notes.old) (N.faults notes.new) result }
+        ensures blame { LineBlames (D.write_faults disk.old) (D.write_faults disk.new) (N.faults notes.old)
+            (N.faults notes.new) result }
         // What stays.
         ensures others { D.tells disk.old → OthersStay output.now (D.held disk.old) (D.held disk.new) }
         ensures tells { D.tells disk.old → D.tells disk.new }
@@ -176,11 +188,17 @@ pub fn pass_lines<D: Disk, N: Sink>(
 ) -> Result<(), Stop>
     requires live { IsTrue lines.old.live }
     requires apart { lines.old.mark.name ≢ output.now }
-    requires fresh { (progress.old.gathered.items ≡ []) × (progress.old.accepted ≡ 0) × (progress.old.refused ≡ 0) }
-    ensures ends { (D.tells disk.old → (D.held disk.old output.now ≡ Some []) × IsAhead (D.held disk.old lines.old.mark.name) lines.old.mark) → LinesEnd (D.tells disk.old) (N.tells notes.old) (left (D.held disk.old lines.old.mark.name) lines.old.mark) output.now (D.held disk.new) (N.held notes.old) (N.held notes.new) progress.new.accepted progress.new.refused result }
+    requires fresh { (progress.old.gathered.items ≡ []) × (progress.old.accepted ≡ 0)
+        × (progress.old.refused ≡ 0) }
+    ensures ends { (D.tells disk.old → (D.held disk.old output.now ≡ Some [])
+        × IsAhead (D.held disk.old lines.old.mark.name) lines.old.mark)
+        → LinesEnd (D.tells disk.old) (N.tells notes.old)
+        (left (D.held disk.old lines.old.mark.name) lines.old.mark) output.now (D.held disk.new)
+        (N.held notes.old) (N.held notes.new) progress.new.accepted progress.new.refused result }
     ensures bound { progress.new.accepted + progress.new.refused ≤ 1000000 }
     // When a fault comes.
-    ensures blame { Blames (D.read_faults disk.old) (D.read_faults disk.new) (D.write_faults disk.old) (D.write_faults disk.new) (N.faults notes.old) (N.faults notes.new) result }
+    ensures blame { Blames (D.read_faults disk.old) (D.read_faults disk.new) (D.write_faults disk.old)
+        (D.write_faults disk.new) (N.faults notes.old) (N.faults notes.new) result }
     // What stays.
     ensures others { D.tells disk.old → OthersStay output.now (D.held disk.old) (D.held disk.new) }
     ensures tells { D.tells disk.old → D.tells disk.new }

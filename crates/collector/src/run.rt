@@ -30,7 +30,8 @@ impl From<Stop> for Status {
 /// Writes the summary of a run that took all lines.
 fn sum_up<O: Sink>(alloc: Global, accepted: u32, refused: u32, out: &mut O) -> Status
     requires { accepted + refused ≤ 1000000 }
-    ensures { Sums (O.tells out.old) result accepted refused (O.held out.old) (O.held out.new) (O.faults out.old) (O.faults out.new) }
+    ensures { Sums (O.tells out.old) result accepted refused (O.held out.old) (O.held out.new)
+        (O.faults out.old) (O.faults out.new) }
 {
     let payloads = accepted + refused;
     let line = match format!(in alloc;
@@ -61,13 +62,20 @@ pub fn run_pass<D: Disk, O: Sink, N: Sink>(
 ) -> Status
     requires { input.now ≢ output.now }
     // What stands at the end, where all is told.
-    ensures leaves { D.tells disk.old → O.tells out.old → N.tells notes.old → Leaves result (input_of (D.held disk.old) input.now) output.now (D.held disk.old) (D.held disk.new) (O.held out.old) (O.held out.new) (N.held notes.old) (N.held notes.new) }
+    ensures leaves { D.tells disk.old → O.tells out.old → N.tells notes.old
+        → Leaves result (input_of (D.held disk.old) input.now) output.now (D.held disk.old) (D.held disk.new)
+        (O.held out.old) (O.held out.new) (N.held notes.old) (N.held notes.new) }
     ensures others { D.tells disk.old → OthersStay output.now (D.held disk.old) (D.held disk.new) }
     // When each status comes.
     ensures no_usage { result ≢ Status.Usage }
     ensures told { D.tells disk.old → Tells result (input_of (D.held disk.old) input.now) }
-    ensures cause { Caused result (faults (D.read_faults disk.old) (D.write_faults disk.old) (O.faults out.old) (N.faults notes.old)) (faults (D.read_faults disk.new) (D.write_faults disk.new) (O.faults out.new) (N.faults notes.new)) }
-    ensures complete { D.tells disk.old → NoneRose (faults (D.read_faults disk.old) (D.write_faults disk.old) (O.faults out.old) (N.faults notes.old)) (faults (D.read_faults disk.new) (D.write_faults disk.new) (O.faults out.new) (N.faults notes.new)) → Answers result (input_of (D.held disk.old) input.now) }
+    ensures cause { Caused result
+        (faults (D.read_faults disk.old) (D.write_faults disk.old) (O.faults out.old) (N.faults notes.old))
+        (faults (D.read_faults disk.new) (D.write_faults disk.new) (O.faults out.new) (N.faults notes.new)) }
+    ensures complete { D.tells disk.old → NoneRose
+        (faults (D.read_faults disk.old) (D.write_faults disk.old) (O.faults out.old) (N.faults notes.old))
+        (faults (D.read_faults disk.new) (D.write_faults disk.new) (O.faults out.new) (N.faults notes.new))
+        → Answers result (input_of (D.held disk.old) input.now) }
 {
     let mut lines = match Lines::begin(alloc, input) {
         Ok(lines) => lines,

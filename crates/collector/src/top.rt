@@ -25,16 +25,29 @@ pub fn collector<D: Disk, O: Sink, N: Sink>(
 ) -> Status
     // Words of no command: the disk and the output stay.
     ensures usage_only { result ≡ Status.Usage → command_of (spelled words.now) ≡ None }
-    ensures usage { command_of (spelled words.now) ≡ None → (result ≡ Status.Usage) ⊎ (result ≡ Status.WriteFault) }
-    ensures usage_note { command_of (spelled words.now) ≡ None → N.tells notes.old → LeavesUsage result (N.held notes.old) (N.held notes.new) }
+    ensures usage { command_of (spelled words.now) ≡ None
+        → (result ≡ Status.Usage) ⊎ (result ≡ Status.WriteFault) }
+    ensures usage_note { command_of (spelled words.now) ≡ None → N.tells notes.old
+        → LeavesUsage result (N.held notes.old) (N.held notes.new) }
     ensures usage_stays { command_of (spelled words.now) ≡ None → (disk.new ≡ disk.old) × (out.new ≡ out.old) }
     // `pass`: what stands at the end, where all is told.
-    ensures leaves { (input output : List ℕ) → command_of (spelled words.now) ≡ Some (pass input output) → D.tells disk.old → O.tells out.old → N.tells notes.old → Leaves result (input_of (D.held disk.old) input) output (D.held disk.old) (D.held disk.new) (O.held out.old) (O.held out.new) (N.held notes.old) (N.held notes.new) }
-    ensures others { (input output : List ℕ) → command_of (spelled words.now) ≡ Some (pass input output) → D.tells disk.old → OthersStay output (D.held disk.old) (D.held disk.new) }
+    ensures leaves { (input output : List ℕ) → command_of (spelled words.now) ≡ Some (pass input output)
+        → D.tells disk.old → O.tells out.old → N.tells notes.old
+        → Leaves result (input_of (D.held disk.old) input) output (D.held disk.old) (D.held disk.new)
+        (O.held out.old) (O.held out.new) (N.held notes.old) (N.held notes.new) }
+    ensures others { (input output : List ℕ) → command_of (spelled words.now) ≡ Some (pass input output)
+        → D.tells disk.old → OthersStay output (D.held disk.old) (D.held disk.new) }
     // When each status comes.
-    ensures told { (input output : List ℕ) → command_of (spelled words.now) ≡ Some (pass input output) → D.tells disk.old → Tells result (input_of (D.held disk.old) input) }
-    ensures cause { Caused result (faults (D.read_faults disk.old) (D.write_faults disk.old) (O.faults out.old) (N.faults notes.old)) (faults (D.read_faults disk.new) (D.write_faults disk.new) (O.faults out.new) (N.faults notes.new)) }
-    ensures complete { (input output : List ℕ) → command_of (spelled words.now) ≡ Some (pass input output) → D.tells disk.old → NoneRose (faults (D.read_faults disk.old) (D.write_faults disk.old) (O.faults out.old) (N.faults notes.old)) (faults (D.read_faults disk.new) (D.write_faults disk.new) (O.faults out.new) (N.faults notes.new)) → Answers result (input_of (D.held disk.old) input) }
+    ensures told { (input output : List ℕ) → command_of (spelled words.now) ≡ Some (pass input output)
+        → D.tells disk.old → Tells result (input_of (D.held disk.old) input) }
+    ensures cause { Caused result
+        (faults (D.read_faults disk.old) (D.write_faults disk.old) (O.faults out.old) (N.faults notes.old))
+        (faults (D.read_faults disk.new) (D.write_faults disk.new) (O.faults out.new) (N.faults notes.new)) }
+    ensures complete { (input output : List ℕ) → command_of (spelled words.now) ≡ Some (pass input output)
+        → D.tells disk.old → NoneRose
+        (faults (D.read_faults disk.old) (D.write_faults disk.old) (O.faults out.old) (N.faults notes.old))
+        (faults (D.read_faults disk.new) (D.write_faults disk.new) (O.faults out.new) (N.faults notes.new))
+        → Answers result (input_of (D.held disk.old) input) }
 {
     match parse_words(words) {
         Some(Command::Pass { input, output }) => run_pass(alloc, input, output, disk, out, notes),

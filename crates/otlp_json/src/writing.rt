@@ -53,7 +53,8 @@ fn push_resource(out: &mut Vec<u8>, resource: &ResourceTree) -> Result<(), Alloc
 
 // The member `scopeLogs`, where there are scopes.
 fn push_scope_logs(out: &mut Vec<u8>, scopes: &[ScopeTree]) -> Result<(), AllocError>
-    ensures { OnOk result (out.new.items ≡ out.old.items ++ listed_from 1 (map member_text (list_member (codes "scopeLogs") (map scope_text scopes.now)))) }
+    ensures { OnOk result (out.new.items ≡ out.old.items ++ listed_from 1
+        (map member_text (list_member (codes "scopeLogs") (map scope_text scopes.now)))) }
 {
     if scopes.is_empty() {
         return Ok(());
@@ -87,7 +88,8 @@ fn push_scope(out: &mut Vec<u8>, scope: &ScopeTree) -> Result<(), AllocError>
 
 // The member `logRecords`, where there are log records.
 fn push_log_records(out: &mut Vec<u8>, logs: &[LogRecord]) -> Result<(), AllocError>
-    ensures { OnOk result (out.new.items ≡ out.old.items ++ listed_from 1 (map member_text (list_member (codes "logRecords") (map record_text logs.now)))) }
+    ensures { OnOk result (out.new.items ≡ out.old.items ++ listed_from 1
+        (map member_text (list_member (codes "logRecords") (map record_text logs.now)))) }
 {
     if logs.is_empty() {
         return Ok(());
@@ -118,7 +120,8 @@ fn push_record(out: &mut Vec<u8>, log: &LogRecord) -> Result<(), AllocError>
 }
 
 fn push_record_members(out: &mut Vec<u8>, log: &LogRecord) -> Result<(), AllocError>
-    ensures { OnOk result (out.new.items ≡ out.old.items ++ listed_from 0 (map member_text (body_member log.now.body ++ attributes_member log.now.attributes))) }
+    ensures { OnOk result (out.new.items ≡ out.old.items ++ listed_from 0
+        (map member_text (body_member log.now.body ++ attributes_member log.now.attributes))) }
 {
     if !has_body(&log.body) {
         return push_attributes(out, &log.attributes, 0);
@@ -130,7 +133,8 @@ fn push_record_members(out: &mut Vec<u8>, log: &LogRecord) -> Result<(), AllocEr
 
 // The member `attributes`, where there are any, behind so many other members.
 fn push_attributes(out: &mut Vec<u8>, attributes: &Pairs, index: usize) -> Result<(), AllocError>
-    ensures { OnOk result (out.new.items ≡ out.old.items ++ listed_from index (map member_text (attributes_member attributes.now))) }
+    ensures { OnOk result (out.new.items ≡ out.old.items ++ listed_from index
+        (map member_text (attributes_member attributes.now))) }
 {
     if attributes.len() == 0 {
         return Ok(());
