@@ -3,6 +3,7 @@ pub mod Maps
 pub mod PairSteps
 pub mod Puts
 pub mod Measures
+pub mod DoubleCases
 pub mod Sames
 pub mod SameSteps
 pub mod Induction

@@ -2,9 +2,11 @@
 pub mod Value
 pub mod Pairs
 pub mod Measure
+pub mod Doubles
 pub mod Same
 pub mod Numeral
 pub mod Errors
--- Inside this crate: how a numeral is read, and where a pair is put.
+-- Inside this crate: where a text is held, how a numeral is read, and where a pair stands.
+pub mod Held
 pub mod Scan
 pub mod Places

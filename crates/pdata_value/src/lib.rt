@@ -2,6 +2,7 @@
 #![tactic(auto)]
 
 mod bytes;
+mod doubles;
 mod error;
 mod laws;
 mod measure;

@@ -1,8 +1,10 @@
 //! How deep a value is, and how much it weighs.
 
 ghost use Rattle.std.specs.Prelude.{◌≡◌, ◌+◌, ◌<◌, ◌≤◌, ◌↔◌, IsTrue, MatchOption};
+ghost use Rattle.pdata_value.specs.declared.value.Value.TheVariants as variants;
 ghost use Rattle.pdata_value.specs.Measure.{depth, weight, depth_of_items, depth_of_pairs, weight_of_items, weight_of_pairs, Fits};
 
+use crate::pairs::Pairs;
 use crate::text::Text;
 use crate::value::Value;
 
@@ -16,6 +18,16 @@ impl Value {
         ensures { IsTrue result ↔ Fits self.now }
     {
         room_after(self, MAX_DEPTH, MAX_WEIGHT).is_some()
+    }
+}
+
+impl Pairs {
+    /// Whether the pairs fit as a map: at most 64 deep, and at most 16,777,216 heavy.
+    #[tactic(auto, using(crate::proofs::Measures::depths, crate::proofs::Measures::weights))]
+    pub fn fits(&self) -> bool
+        ensures { IsTrue result ↔ Fits (variants.Map self.now) }
+    {
+        room_after_pairs(self.as_slice(), MAX_DEPTH - 1, MAX_WEIGHT - 1).is_some()
     }
 }
 

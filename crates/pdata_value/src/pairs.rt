@@ -1,6 +1,6 @@
 //! Lists of pairs, in which the first pair with a key counts.
 
-ghost use Rattle.std.specs.Prelude.{◌≡◌, ◌++◌, ◌∷◌, [], length, slice_get, IfOk, OnOk, OnErr, MatchOption, option_map};
+ghost use Rattle.std.specs.Prelude.{◌≡◌, ◌++◌, ◌∷◌, [], length, slice_get, ◌↔◌, IsOk, IsSome, Some, IfOk, IfErr, OnOk, OnErr, MatchOption, option_map};
 ghost use Rattle.std.specs.Option.{option_copied};
 ghost use Rattle.pdata_value.specs.Value.{pairs};
 ghost use Rattle.pdata_value.specs.Pairs.{get, has_key, put};
@@ -105,6 +105,20 @@ impl Pairs {
                 let key = Text::from_str(self.items.allocator(), key)?;
                 self.items.push((key, value))
             }
+        }
+    }
+
+    /// Gives the first pair with the key this value, and hands back the one that it had; where no pair has the key, the
+    /// value comes back as an Err.
+    pub fn replace(&mut self, key: &str, value: Value) -> Result<Value, Value>
+        ensures there { IsOk result ↔ IsSome (get (pairs self.old) key.now) }
+        ensures new { OnOk result (pairs self.new ≡ put (pairs self.old) key.now value) }
+        ensures old { IfOk result (λ was. get (pairs self.old) key.now ≡ Some was) }
+        ensures err { IfErr result (λ same. (same ≡ value) × (self.new ≡ self.old)) }
+    {
+        match find(self.as_slice(), key) {
+            Some(at) => Ok(mem::replace(&mut self.items.at_mut(at).1, value)),
+            None => Err(value),
         }
     }
 

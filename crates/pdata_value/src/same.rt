@@ -3,7 +3,7 @@
 ghost use Rattle.std.specs.Prelude.{◌≡◌, Some};
 ghost use Rattle.pdata_value.specs.Value.{pairs as pairs_of};
 ghost use Rattle.pdata_value.specs.Pairs.{get};
-ghost use Rattle.pdata_value.specs.Same.{same, same_items, same_answer, same_keys};
+ghost use Rattle.pdata_value.specs.Same.{same, same_items, same_answer, same_keys, same_pairs};
 ghost use Rattle.pdata_value.specs.Places.{keys_within};
 
 use crate::pairs::{Pairs, has_key};
@@ -48,13 +48,20 @@ impl Value {
                 _ => false,
             },
             Value::Map(pairs) => match other {
-                Value::Map(others) => {
-                    are_same_at_keys(pairs.as_slice(), others)
-                        && has_keys(pairs.as_slice(), others.as_slice())
-                }
+                Value::Map(others) => pairs.same(others),
                 _ => false,
             },
         }
+    }
+}
+
+impl Pairs {
+    /// Whether both have the same keys, with the same first values.
+    #[cycle(same)]
+    pub fn same(&self, other: &Pairs) -> bool
+        ensures { result ≡ same_pairs (pairs_of self.now) (pairs_of other.now) }
+    {
+        are_same_at_keys(self.as_slice(), other) && has_keys(self.as_slice(), other.as_slice())
     }
 }
 

@@ -29,7 +29,9 @@ fn holds(map: &Pairs, entries: &[(&str, i64)]) -> bool {
 fn texts_and_bytes_are_kept(rt: HostRuntime) -> Result<(), Fail> {
     let text = Text::from_str(rt.alloc(), "häß")?.copy()?;
     assert_eq!(rt; text.len(), 5);
-    assert_eq!(rt; Text::from_string(text.into_string()).as_str(), "häß");
+    assert_eq!(rt; text.as_str(), "häß");
+    let long = Text::from_str(rt.alloc(), "of more bytes than stand in the value")?.copy()?;
+    assert_eq!(rt; long.as_str(), "of more bytes than stand in the value");
     assert_eq!(rt; Text::new(rt.alloc()).len(), 0);
     let bytes = Bytes::from_slice(rt.alloc(), &[255, 0])?.copy()?;
     assert_eq!(rt; bytes.len(), 2);
@@ -87,6 +89,10 @@ fn the_first_pair_with_a_key_counts(rt: HostRuntime) -> Result<(), Fail> {
     let keys = [Text::from_str(alloc, "b")?, Text::from_str(alloc, "c")?];
     map.keep(&keys);
     assert!(rt; holds(&map, &[("b", 5)]));
+    assert!(rt; matches!(map.replace("b", Value::Int(6)), Ok(Value::Int(5))));
+    assert!(rt; matches!(map.replace("c", Value::Int(7)), Err(Value::Int(7))));
+    assert!(rt; holds(&map, &[("b", 6)]));
+    assert!(rt; map.fits());
     assert!(rt; map.take().is_some());
     assert_eq!(rt; map.as_slice().len(), 0);
     assert!(rt; map.take().is_none());
@@ -133,6 +139,9 @@ fn values_are_compared_by_content(rt: HostRuntime) -> Result<(), Fail> {
     assert!(rt; !value.same(&mixed(alloc, "1e2", &[("a", 1)])?));
     assert!(rt; !value.same(&mixed(alloc, "1e2", &[("a", 1), ("b", 2), ("", 0)])?));
     assert!(rt; !Value::Empty.same(&Value::Truth(false)));
+    assert!(rt; value.has_double());
+    assert!(rt; !Value::Map(map_of(alloc, &[("a", 1)])?).has_double());
+    assert!(rt; map_of(alloc, &[("a", 1)])?.same(&map_of(alloc, &[("a", 1), ("a", 2)])?));
     Ok(())
 }
 
@@ -151,8 +160,10 @@ fn values_fit_up_to_their_limits(rt: HostRuntime) -> Result<(), Fail> {
     assert_eq!(rt; list.copy()?.len(), 1);
     assert!(rt; list.at(0).is_some_and(|deepest| deepest.fits()));
     assert_eq!(rt; list.as_slice().len(), 1);
-    let deeper = Value::List(list);
-    assert!(rt; !deeper.fits());
+    let mut other = list.copy()?;
+    assert!(rt; !Value::List(list).fits());
+    assert!(rt; matches!(other.replace(0, Value::Truth(true)), Value::List(_)));
+    assert!(rt; Value::List(other).fits());
     for (count, fits) in [(16_777_213usize, true), (16_777_214, false)].iter() {
         let bytes = vec![in alloc; 0u8; *count]?;
         let mut map = Pairs::new(alloc);

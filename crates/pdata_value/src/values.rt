@@ -1,6 +1,6 @@
 //! Lists of values.
 
-ghost use Rattle.std.specs.Prelude.{◌≡◌, ◌++◌, ◌∷◌, [], ◌<◌, length, slice_get, IfOk, OnOk, OnErr, OnSome, MatchOption};
+ghost use Rattle.std.specs.Prelude.{◌≡◌, ◌++◌, ◌∷◌, [], ◌<◌, length, slice_get, slice_set, IfOk, OnOk, OnErr, OnSome, MatchOption, Some};
 ghost use Rattle.std.specs.Option.{option_copied};
 ghost use Rattle.pdata_value.specs.Value.{items};
 
@@ -70,6 +70,15 @@ impl Values {
             (λ last. items self.old ≡ items self.new ++ last ∷ []) }
     {
         self.items.take()
+    }
+
+    /// Puts a value in a place, and hands back the one that stood there.
+    pub fn replace(&mut self, index: usize, value: Value) -> Value
+        requires { index < length (items self.old) }
+        ensures new { items self.new ≡ slice_set (items self.old) index value }
+        ensures old { slice_get (items self.old) index ≡ Some result }
+    {
+        self.items.replace(index, value)
     }
 
     #[cycle(copy)]

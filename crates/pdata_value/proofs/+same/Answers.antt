@@ -42,19 +42,16 @@ pub value::Value::same-returns-in_default-other-7 : goal.value::Value::same-retu
 value::Value::same-returns-in_default-other-7 t c =
     sym (ap (λ (v : Value). same v c.args.other.now) c.in-Map.is ∙ same-Map-other c.in-Map.pairs c.args.other.now c.in_default-other-7.not-Map)
 
-pub value::Value::same-returns-then-are_same_at_keys : goal.value::Value::same-returns-then-are_same_at_keys
-value::Value::same-returns-then-are_same_at_keys t c =
-    let ps = pairs c.in-Map.pairs in
-    let qs = pairs c.in-Map-other.others in
+pub pairs::Pairs::same-returns-then-are_same_at_keys : goal.pairs::Pairs::same-returns-then-are_same_at_keys
+pairs::Pairs::same-returns-then-are_same_at_keys t c =
+    let ps = pairs c.args.self.now in
+    let qs = pairs c.args.other.now in
     let alike : same_keys ps ps qs ≡ true =
-    subst (λ (xs : List (List ℕ × Value)). same_keys xs xs qs ≡ true) c.as_slice-in-Map-other.ensures (sym c.if-are_same_at_keys.ensures) in
+    subst (λ (xs : List (List ℕ × Value)). same_keys xs xs qs ≡ true) c.as_slice.ensures (sym c.if-are_same_at_keys.ensures) in
     let found : c.has_keys.result ≡ keys_within qs ps = c.has_keys.ensures
     ∙ ap (λ (xs : List (List ℕ × Value)). keys_within xs c.as_slice-then-are_same_at_keys.result.now) c.as_slice-then-are_same_at_keys-2.ensures
     ∙ ap (λ (xs : List (List ℕ × Value)). keys_within qs xs) c.as_slice-then-are_same_at_keys.ensures in
-    let maps : same c.args.self.now c.args.other.now ≡ same_pairs ps qs = ap (λ (v : Value). same v c.args.other.now) c.in-Map.is
-    ∙ ap (λ (v : Value). same (variants.Map c.in-Map.pairs) v) c.in-Map-other.is
-    ∙ same-Map-Map c.in-Map.pairs c.in-Map-other.others in
-    found ∙ sym (maps ∙ same_pairs-within ps qs alike)
+    found ∙ sym (same_pairs-within ps qs alike)
 
 pub same::are_same-returns-then-values-others : goal.same::are_same-returns-then-values-others
 same::are_same-returns-then-values-others t c = sym (lengths_differ c.args.values.now c.args.others.now c.if-values-others.true)
