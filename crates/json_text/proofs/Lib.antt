@@ -1,4 +1,5 @@
 pub mod Scans
+pub mod Masks
 pub mod Numerals
 pub mod Turns
 pub mod Values

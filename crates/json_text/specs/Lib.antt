@@ -4,5 +4,6 @@ pub mod Reading
 pub mod Writing
 pub mod Grammar
 pub mod Placed
--- Inside this crate: what stands between two places.
+-- Inside this crate: what stands between two places, and what ends a run of plain bytes.
 pub mod Spelled
+pub mod Marks

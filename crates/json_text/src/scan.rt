@@ -1,10 +1,14 @@
 //! How far bytes of a kind go.
 
-ghost use Rattle.std.specs.Prelude.{◌≡◌, ◌≤◌, length};
+ghost use Rattle.std.specs.Prelude.{◌≡◌, ◌+◌, ◌≤◌, length, map};
 ghost use Rattle.std.specs.List.{prefix_len};
+ghost use Rattle.std.specs.Simd.Lanes.{mask_l, chunk};
 ghost use Rattle.pdata_value.specs.Numeral as numeral;
 ghost use Rattle.json_text.specs.Place.{is_blank};
 ghost use Rattle.json_text.specs.Reading.{is_plain};
+ghost use Rattle.json_text.specs.Marks.{is_marked};
+
+use std::simd::prelude::*;
 
 #[inline(always)]
 pub(crate) fn blank_len(bytes: &[u8]) -> usize
@@ -44,16 +48,36 @@ pub(crate) fn is_digit(byte: u8) -> bool
     b'0' <= byte && byte <= b'9'
 }
 
+// Bit k is set where the byte k places on doesn't stand for itself.
+#[inline(always)]
+fn marks(bytes: &[u8], at: usize) -> u64
+    requires { at + 16 ≤ length bytes.now }
+    ensures { result ≡ mask_l (map is_marked (chunk at 16 bytes.now)) }
+{
+    let lanes = u8x16::from_slice(&bytes[at..]);
+    let quote = lanes.simd_eq(u8x16::splat(b'"')).to_bitmask();
+    let slash = lanes.simd_eq(u8x16::splat(b'\\')).to_bitmask();
+    let control = lanes.simd_lt(u8x16::splat(b' ')).to_bitmask();
+    quote | slash | control
+}
+
 #[inline(always)]
 pub(crate) fn plain_len(bytes: &[u8]) -> usize
     ensures value { result ≡ prefix_len is_plain bytes.now }
     ensures within { result ≤ length bytes.now }
 {
-    let mut count = 0;
-    while count < bytes.len() && is_plain_byte(bytes[count]) {
-        count += 1;
+    let mut at = 0;
+    while 16 <= bytes.len() - at {
+        let marks = marks(bytes, at);
+        if marks != 0 {
+            return at + marks.trailing_zeros() as usize;
+        }
+        at += 16;
     }
-    count
+    while at < bytes.len() && is_plain_byte(bytes[at]) {
+        at += 1;
+    }
+    at
 }
 
 #[inline(always)]

@@ -2,10 +2,9 @@ use Rattle.std.proofs.Common.{◌≡◌, ◌∙◌, ℕ, ◌<◌, true, false, L
 use Rattle.pdata_value.specs.Value.{pairs}
 use Rattle.pdata_value.specs.Pairs.{get, has_key}
 use Rattle.pdata_value.specs.Places.{keys_within}
-use Rattle.pdata_value.specs.Same.{same, same_answer, same_keys, same_pairs}
+use Rattle.pdata_value.specs.Same.{same, same_answer, same_keys}
 use Rattle.pdata_value.specs.declared.value.Value.{Value}
-use Rattle.pdata_value.specs.declared.value.Value.TheVariants as variants
-use Rattle.pdata_value.proofs.Sames.{same-Empty-other, same-Text-other, same-Truth-other, same-Int-other, same-Double-other, same-Bytes-other, same-List-other, same-Map-other, same-Map-Map}
+use Rattle.pdata_value.proofs.Sames.{same-Empty-other, same-Text-other, same-Truth-other, same-Int-other, same-Double-other, same-Bytes-other, same-List-other, same-Map-other}
 use Rattle.pdata_value.proofs.SameSteps.{lengths_differ, known_alike, one_more, one_differs, found_first, same_pairs-within}
 use Rattle.pdata_value.proofs.+same.Goals as goal
 use Rattle.pdata_value.proofs.+same.Goals.{same::are_same_at_keys-else-not-has_key-via-then-not-has_key+else-not-is_same_at_key, same::are_same_at_keys-else-not-has_key-via-else-not-has_key}

@@ -1,10 +1,16 @@
-use Rattle.std.proofs.Common.{length, ◌-◌}
+use Rattle.std.proofs.Common.{length, ◌-◌, ◌≡◌, ◌+◌, ◌≤◌, drop}
+use Rattle.std.specs.List.{prefix_len}
 use Rattle.json_text.specs.Reading.{is_plain}
-use Rattle.json_text.proofs.Scans.{GoesOn}
 use Rattle.json_text.proofs.scan.plain_len.Given as goal
 
-abbrev pub invariant-loop-count : goal.invariant-loop-count
-invariant-loop-count l = GoesOn is_plain l.bytes l.count
+abbrev pub invariant-loop-at : goal.invariant-loop-at
+invariant-loop-at l = (l.at ≤ length l.bytes) × (prefix_len is_plain l.bytes ≡ l.at + prefix_len is_plain (drop l.at l.bytes))
 
-abbrev pub decreases-loop-count : goal.decreases-loop-count
-decreases-loop-count l = length l.bytes - l.count
+abbrev pub decreases-loop-at : goal.decreases-loop-at
+decreases-loop-at l = length l.bytes - l.at
+
+abbrev pub invariant-loop-at-2 : goal.invariant-loop-at-2
+invariant-loop-at-2 l = (l.at ≤ length l.bytes) × (prefix_len is_plain l.bytes ≡ l.at + prefix_len is_plain (drop l.at l.bytes))
+
+abbrev pub decreases-loop-at-2 : goal.decreases-loop-at-2
+decreases-loop-at-2 l = length l.bytes - l.at
