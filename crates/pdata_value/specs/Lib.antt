@@ -6,6 +6,9 @@ pub mod Doubles
 pub mod Same
 pub mod Numeral
 pub mod Errors
+pub mod Answers
+pub mod Wanted
+pub mod Shown
 -- Inside this crate: where a text is held, how a numeral is read, and where a pair stands.
 pub mod Held
 pub mod Scan

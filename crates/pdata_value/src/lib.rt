@@ -10,10 +10,12 @@ mod merge;
 mod numeral;
 mod pairs;
 mod same;
+mod showing;
 mod spelling;
 mod text;
 mod value;
 mod values;
+mod wanted;
 
 pub use bytes::Bytes;
 pub use error::{EvalErr, EvalStop};
@@ -23,10 +25,12 @@ pub use laws::{
 };
 pub use merge::Strategy;
 pub use pairs::Pairs;
+pub use showing::{shown, string};
 pub use spelling::{Spelling, SpellingStop};
 pub use text::Text;
 pub use value::Value;
 pub use values::Values;
+pub use wanted::{int_in, list_in, made, text_in};
 
 #[cfg(test)]
 mod tests;
