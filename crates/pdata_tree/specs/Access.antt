@@ -1,11 +1,11 @@
 -- Reading and writing at a path of a tree.
-use Rattle.std.specs.Prelude.{ℕ, List, Option, Some, None, Result, Ok, Err, slice_get, slice_set}
+use Rattle.std.specs.Prelude.{ℕ, cond, List, Option, Some, None, Result, Ok, Err, slice_get, slice_set}
 use Rattle.pdata_value.specs.Answers.{◌>>=◌}
 use Rattle.pdata_value.specs.declared.error.EvalErr.{EvalErr}
 use Rattle.pdata_value.specs.declared.error.EvalErr.TheVariants.{KindOf}
 use Rattle.pdata_value.specs.declared.value.Value.{Value}
 use Rattle.pdata_tree.specs.Fields.{resource_reads, scope_reads, log_reads, resource_takes, scope_takes, log_takes}
-use Rattle.pdata_tree.specs.Paths.{level_of}
+use Rattle.pdata_tree.specs.Paths.{is_field_of, level_of}
 use Rattle.pdata_tree.specs.declared.batch.Batch.{Batch}
 use Rattle.pdata_tree.specs.declared.path.Field.{Field}
 use Rattle.pdata_tree.specs.declared.path.Key.{Key}
@@ -22,6 +22,10 @@ abbrev pub there : {X Y : Type 0} → Option X → (X → Result Y EvalErr) → 
 there None f = Err KindOf
 there (Some x) f = f x
 
+-- an answer at a field, where the context has it
+abbrev pub of_context : {X : Type 0} → Context → Field → Result X EvalErr → Result X EvalErr
+of_context context field answer = cond (is_field_of context field) answer (Err KindOf)
+
 -- what a resource reads at a level: at a field of the object that holds it
 abbrev pub read_in : Context → Field → List Key → Place → ResourceTree → Result Value EvalErr
 read_in Resource field keys place r = resource_reads field keys r.node
@@ -31,8 +35,8 @@ read_in Log field keys place r =
 
 -- the value at a path
 abbrev pub at_path : PathTo → Batch → Context → Place → Result Value EvalErr
-at_path path batch context place =
-    there (slice_get batch.resources place.resource) (read_in (level_of context path.field) path.field path.keys place)
+at_path path batch context place = of_context context path.field
+    (there (slice_get batch.resources place.resource) (read_in (level_of context path.field) path.field path.keys place))
 
 -- What becomes of a list where one of its items changes, and of an object where its own fields or a list below it do.
 
@@ -64,6 +68,6 @@ written_in Log field keys v place = change_scope place (change_log place (log_ta
 
 -- the tree with a value written at a path
 abbrev pub with_path : PathTo → Value → Batch → Context → Place → Result Batch EvalErr
-with_path path v batch context place =
-    change_at place.resource (written_in (level_of context path.field) path.field path.keys v place) batch.resources
-    >>= λ resources. Ok (record batch { resources = resources })
+with_path path v batch context place = of_context context path.field
+    (change_at place.resource (written_in (level_of context path.field) path.field path.keys v place) batch.resources
+    >>= λ resources. Ok (record batch { resources = resources }))

@@ -32,6 +32,15 @@ nodes_of_resources (r ∷ rs) = 1 + nodes_of_scopes r.scopes + nodes_of_resource
 abbrev pub nodes : Batch → ℕ
 nodes batch = 1 + nodes_of_resources batch.resources
 
+-- resources and their scopes, without log records
+abbrev pub spine_of_resources : List ResourceTree → ℕ
+spine_of_resources [] = 0
+spine_of_resources (r ∷ rs) = 1 + length r.scopes + spine_of_resources rs
+
+-- the payload and all below it but the log records
+abbrev pub spine : Batch → ℕ
+spine batch = 1 + spine_of_resources batch.resources
+
 -- few enough nodes that 32 bits number them
 abbrev pub IsCountable : Batch → Type 0
 IsCountable batch = nodes batch < 2 ^ 32

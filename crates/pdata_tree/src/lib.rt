@@ -26,7 +26,6 @@ pub use record::LogRecord;
 pub use resource::{ResourceNode, ResourceTree, Scopes};
 pub use scene::Scene;
 pub use scope::{Logs, ScopeNode, ScopeTree};
-pub use tree_access::level_of;
 pub use walk::{read_below, read_map};
 pub use writing::{write_log, write_resource, write_scope};
 

@@ -1,5 +1,9 @@
 //! Paths into a tree.
 
+ghost use Rattle.std.specs.Prelude.{◌≡◌};
+ghost use Rattle.pdata_tree.specs.Paths as spec;
+
+use crate::place::Context;
 use item_list::ItemList;
 use pdata_value::Text;
 
@@ -31,6 +35,49 @@ pub enum Field {
     SpanIdString,
     /// Of no object: it belongs to the statements of a group.
     Cache,
+}
+
+impl Field {
+    /// Whether the field is one of the context's.
+    pub fn is_of(self, context: Context) -> bool
+        ensures { result ≡ spec.is_field_of context self }
+    {
+        match self {
+            Field::Attributes | Field::DroppedAttributesCount | Field::Cache => true,
+            Field::Name | Field::Version => context == Context::Scope,
+            Field::ResourceAttributes | Field::ResourceDroppedAttributesCount => {
+                context != Context::Resource
+            }
+            _ => context == Context::Log,
+        }
+    }
+
+    /// The kind of object that holds the field of a context.
+    pub fn level_of(self, context: Context) -> Context
+        ensures { result ≡ spec.level_of context self }
+    {
+        match self {
+            Field::ResourceAttributes | Field::ResourceDroppedAttributesCount => Context::Resource,
+            Field::InstrumentationScopeAttributes
+            | Field::InstrumentationScopeName
+            | Field::InstrumentationScopeVersion => Context::Scope,
+            _ => context,
+        }
+    }
+
+    /// Whether keys may follow the field.
+    pub fn takes_keys(self) -> bool
+        ensures { result ≡ spec.takes_keys self }
+    {
+        match self {
+            Field::Attributes
+            | Field::ResourceAttributes
+            | Field::InstrumentationScopeAttributes
+            | Field::Body
+            | Field::Cache => true,
+            _ => false,
+        }
+    }
 }
 
 /// One step below a field.

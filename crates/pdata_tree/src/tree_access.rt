@@ -1,14 +1,12 @@
 //! Reading and writing at a path of a tree.
 
-ghost use Rattle.std.specs.Prelude.{◌≡◌};
 ghost use Rattle.pdata_value.specs.Answers.{Answers};
 ghost use Rattle.pdata_tree.specs.Access as spec;
 ghost use Rattle.pdata_tree.specs.Changes.{Changes};
 ghost use Rattle.pdata_tree.specs.Fields.{log_takes};
-ghost use Rattle.pdata_tree.specs.Paths as paths;
 
 use crate::batch::{Batch, Resources};
-use crate::path::{Field, PathTo};
+use crate::path::PathTo;
 use crate::place::{Context, Place};
 use crate::reading::{read_log, read_resource, read_scope};
 use crate::resource::{ResourceTree, Scopes};
@@ -16,19 +14,6 @@ use crate::scope::Logs;
 use crate::writing::{write_log, write_resource, write_scope};
 use pdata_value::{EvalErr, EvalStop, Value};
 use std::alloc::Global;
-
-/// The kind of object that holds a field of a context.
-pub fn level_of(context: Context, field: Field) -> Context
-    ensures { result ≡ paths.level_of context field }
-{
-    match field {
-        Field::ResourceAttributes | Field::ResourceDroppedAttributesCount => Context::Resource,
-        Field::InstrumentationScopeAttributes
-        | Field::InstrumentationScopeName
-        | Field::InstrumentationScopeVersion => Context::Scope,
-        _ => context,
-    }
-}
 
 /// The value at a path.
 pub(crate) fn read_at(
@@ -39,10 +24,13 @@ pub(crate) fn read_at(
 ) -> Result<Value, EvalStop>
     ensures { Answers result (spec.at_path path.now batch.now context place) }
 {
+    if !path.field.is_of(context) {
+        return Err(EvalStop::Err(EvalErr::KindOf));
+    }
     let alloc = batch.resources.allocator();
     match batch.resources.at(place.resource as usize) {
         Some(resource) => {
-            let level = level_of(context, path.field);
+            let level = path.field.level_of(context);
             read_in(alloc, resource, level, place, path)
         }
         None => Err(EvalStop::Err(EvalErr::KindOf)),
@@ -85,8 +73,11 @@ pub(crate) fn write_at(
 ) -> Result<(), EvalStop>
     ensures { Changes (spec.with_path path.now value batch.old context place) batch.old batch.new result }
 {
+    if !path.field.is_of(context) {
+        return Err(EvalStop::Err(EvalErr::KindOf));
+    }
     let alloc = batch.resources.allocator();
-    let level = level_of(context, path.field);
+    let level = path.field.level_of(context);
     write_resource_at(alloc, &mut batch.resources, level, place, path, value)
 }
 
