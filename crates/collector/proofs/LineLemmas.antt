@@ -1,12 +1,9 @@
 -- From line to line: what was done, and what is left.
-use Rattle.std.proofs.Common.{◌≡◌, ◌∙◌, ◌+◌, ◌++◌, [], ◌∷◌, List, ℕ, ◌⊎◌, Option, Some, None, IfSome, Result, Ok, Err, length, ap, sym, refl, inl, inr, subst, arith, append_assoc, append-nil}
+use Rattle.std.proofs.Common.{◌≡◌, ◌∙◌, ◌+◌, ◌++◌, [], ◌∷◌, List, ℕ, Result, Ok, Err, length, ap, sym, refl, subst, arith, append_assoc, append-nil}
 use Rattle.contract_words.specs.Fronts.{IsFront, GrewByFront}
-use Rattle.contract_words.specs.Held.{Held}
-use Rattle.contract_words.specs.InputLines.{Taken, ended, too_long, taking}
 use Rattle.collector.specs.Payload.{judged}
-use Rattle.collector.specs.Ends.{before, input_of, Took, GrewBy}
+use Rattle.collector.specs.Ends.{GrewBy}
 use Rattle.collector.specs.Pass.{text_of_line, note_of_line, accepted_by, refused_by, pass_text, pass_notes, count_accepted, count_refused}
-use Rattle.collector.specs.declared.status.Status.TheVariants.{WriteFault}
 
 pub pass_text-append : (a b : List (List ℕ)) → pass_text (a ++ b) ≡ pass_text a ++ pass_text b
 pass_text-append [] b = refl
@@ -36,27 +33,6 @@ one_of (Err fault) = refl
 pub counts-length : (a : List (List ℕ)) → count_accepted a + count_refused a ≡ length a
 counts-length [] = refl
 counts-length (l ∷ a) = omega (arith, counts-length a, one_of (judged l))
-
-pub before-append : (a b : List (List ℕ)) (t : Taken) → before (a ++ b) t ≡ before a (before b t)
-before-append [] b t = refl
-before-append (l ∷ a) b t = ap (taking l) (before-append a b t)
-
--- lines, up to the end or to one that passes a limit
-pub in_lines : (t : Taken) → (more : List (List ℕ)) × ((t ≡ before more ended) ⊎ (t ≡ before more too_long))
-in_lines ended = ([], inl refl)
-in_lines too_long = ([], inr refl)
-in_lines (taking l t) =
-    let h = in_lines t in
-    (l ∷ h.0, elim h.1 [ inl e ↦ inl (ap (taking l) e) | inr e ↦ inr (ap (taking l) e) ])
-
--- all lines of an input of which these are the first
-pub all-first : (o : Option Held) (name : List ℕ) (lines : List (List ℕ)) → IfSome o (λ held. (rest : Taken) × (input_of (held name) ≡ before lines rest))
-    → (more : List (List ℕ)) × IfSome o (λ held. Took WriteFault (held name) (lines ++ more))
-all-first None name lines is = ([], tt)
-all-first (Some held) name lines is =
-    let h = in_lines is.0 in
-    let at : (t : Taken) → is.0 ≡ before h.0 t → input_of (held name) ≡ before (lines ++ h.0) t = λ t e. is.1 ∙ (ap (before lines) e ∙ sym (before-append lines h.0 t)) in
-    (h.0, elim h.1 [ inl e ↦ inl (at ended e) | inr e ↦ inr (at too_long e) ])
 
 pub front-more : (front bytes more : List ℕ) → IsFront front bytes → IsFront front (bytes ++ more)
 front-more front bytes more f = record { rest = f.rest ++ more; whole = ap (λ (t : List ℕ). t ++ more) f.whole ∙ append_assoc front f.rest more }

@@ -10,6 +10,7 @@ use Rattle.collector.specs.Words.{Command, pass, usage_line}
 use Rattle.collector.specs.declared.status.Status.{Status}
 use Rattle.collector.specs.declared.status.Status.TheVariants.{Usage, WriteFault}
 
+-- what a command means
 abbrev pub meaning : Command → Meaning
 meaning (pass input output) = pass_meaning input output
 

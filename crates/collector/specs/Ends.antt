@@ -39,7 +39,8 @@ abbrev pub Took : Status → Option (List ℕ) → List (List ℕ) → Type 0
 Took Done file lines = Begins file lines ended
 Took SomeRefused file lines = Begins file lines ended
 Took TooLong file lines = Begins file lines too_long
-Took WriteFault file lines = (input_of file ≡ before lines ended) ⊎ (input_of file ≡ before lines too_long)
+Took WriteFault file lines =
+    (input_of file ≡ before lines ended) ⊎ (input_of file ≡ before lines too_long)
 Took _ file lines = (rest : Taken) × (input_of file ≡ before lines rest)
 
 -- a complete run tells whether a line was refused

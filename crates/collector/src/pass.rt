@@ -6,7 +6,7 @@ ghost use Rattle.tele_io.specs.Views.{SinkView, Told, Writes};
 ghost use Rattle.tele_io.specs.Mark.{start_of};
 ghost use Rattle.otlp_json.specs.Names.{fault_name};
 ghost use Rattle.collector.specs.Devices.{Devices, devices, Caused};
-ghost use Rattle.collector.specs.Lines.{Gathers, LineText, LineNote, LineCounts, status_by};
+ghost use Rattle.collector.specs.Lines.{step, flushing, Gathers, LineText, LineNote, LineCounts, status_by};
 ghost use Rattle.collector.specs.Pass.{note_of_fault, summary_by, pass_meaning};
 ghost use Rattle.collector.specs.Between.{start, Stands, LinesEnd};
 
@@ -106,7 +106,7 @@ impl Progress {
     /// Appends what was gathered.
     fn flush<D: Disk>(&mut self, output: &str, disk: &mut D) -> Result<(), DiskFault>
         ensures text { Writes (is_err result)
-            (Gathers output.now self.old.gathered.items self.new.gathered.items result)
+            (Gathers (flushing output.now self.old self.new) result)
             (D.seen disk.old) (D.seen disk.new) }
         ensures emptied { OnOk result (self.new.gathered.items ≡ []) }
         // What stays.
@@ -122,7 +122,7 @@ impl Progress {
     fn accept<D: Disk>(&mut self, output: &str, disk: &mut D) -> Result<(), DiskFault>
         requires { self.old.accepted + self.old.refused < max_lines }
         ensures text { Writes (is_err result)
-            (Gathers output.now self.old.gathered.items self.new.gathered.items result)
+            (Gathers (flushing output.now self.old self.new) result)
             (D.seen disk.old) (D.seen disk.new) }
         ensures accepted { self.new.accepted ≡ self.old.accepted + 1 }
         ensures refused { self.new.refused ≡ self.old.refused }
@@ -146,13 +146,11 @@ impl Progress {
         requires room { self.old.accepted + self.old.refused < max_lines }
         requires short { length line.now ≤ max_line }
         ensures text { Told
-            (LineText output.now line.now self.old.gathered.items self.new.gathered.items result)
+            (LineText (step output.now line.now self.old self.new) result)
             (D.seen disk.old).held (D.seen disk.new).held }
-        ensures note { Told (LineNote (self.old.accepted + self.old.refused + 1) line.now result)
+        ensures note { Told (LineNote (step output.now line.now self.old self.new) result)
             (N.seen notes.old).held (N.seen notes.new).held }
-        ensures counts { LineCounts line.now
-            (record { accepted = self.old.accepted; refused = self.old.refused })
-            (record { accepted = self.new.accepted; refused = self.new.refused }) result }
+        ensures counts { LineCounts (step output.now line.now self.old self.new) result }
         // When a fault comes, whatever the output is.
         ensures cause { (out : SinkView) → Caused (status_by result)
             (devices (D.seen disk.old) out (N.seen notes.old))
@@ -190,8 +188,10 @@ pub fn pass_lines<D: Disk, N: Sink>(
     requires apart { lines.old.name ≢ output.now }
     requires fresh { (progress.old.gathered.items ≡ []) × (progress.old.accepted ≡ 0)
         × (progress.old.refused ≡ 0) }
-    // From where a run stands before its first line, whatever it began with and whatever the output is.
-    ensures ends { let m = pass_meaning lines.old.name output.now in (begun : Devices) (out : SinkView)
+    // From where a run stands before its first line, whatever it began with and whatever the output
+    // is.
+    ensures ends { let m = pass_meaning lines.old.name output.now in
+        (begun : Devices) (out : SinkView)
         → Stands m (start ([] ∷ [])) begun (devices (D.seen disk.old) out (N.seen notes.old))
         → LinesEnd m (summary_by progress.new.accepted progress.new.refused) progress.new.refused
         begun (devices (D.seen disk.new) out (N.seen notes.new)) result }

@@ -31,8 +31,7 @@ impl From<Stop> for Status {
 /// Writes the summary of a run that took all lines.
 fn sum_up<O: Sink>(alloc: Global, accepted: u32, refused: u32, out: &mut O) -> Status
     requires { accepted + refused ≤ max_lines }
-    ensures { SumsUp result (record { accepted = accepted; refused = refused })
-        (O.seen out.old) (O.seen out.new) }
+    ensures { SumsUp result accepted refused (O.seen out.old) (O.seen out.new) }
 {
     let payloads = accepted + refused;
     let line = match format!(in alloc;
@@ -52,7 +51,8 @@ fn sum_up<O: Sink>(alloc: Global, accepted: u32, refused: u32, out: &mut O) -> S
     }
 }
 
-/// Writes each accepted payload of the input in its one form. The output is created before the input is read.
+/// Writes each accepted payload of the input in its one form. The output is created before the
+/// input is read.
 pub fn run_pass<D: Disk, O: Sink, N: Sink>(
     alloc: Global,
     input: &str,

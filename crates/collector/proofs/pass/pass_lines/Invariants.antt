@@ -4,6 +4,7 @@ use Rattle.contract_words.specs.InputLines.{max_lines}
 use Rattle.tele_io.specs.Views.{SinkView}
 use Rattle.collector.specs.Devices.{Devices, devices, Stay, all_counts}
 use Rattle.collector.specs.Pass.{pass_meaning}
+use Rattle.collector.specs.Lines.{tally_of}
 use Rattle.collector.specs.Between.{Stands, start}
 use Rattle.collector.proofs.Going.{Going}
 use Rattle.collector.proofs.pass.pass_lines.Given as goal
@@ -11,7 +12,7 @@ use Rattle.collector.proofs.pass.pass_lines.Given as goal
 abbrev pub invariant-lines : goal.invariant-lines
 invariant-lines g l = record {
   going : (begun : Devices) (out : SinkView) → Stands (pass_meaning l.fn.lines.name l.output) (start ([] ∷ [])) begun (devices (g.D.Disk.seen l.fn.disk) out (g.N.Sink.seen l.fn.notes))
-      → Going l.fn.lines.name l.output begun (devices (g.D.Disk.seen l.disk) out (g.N.Sink.seen l.notes)) l.lines l.progress.gathered.items l.progress.accepted l.progress.refused;
+      → Going l.fn.lines.name l.output begun (devices (g.D.Disk.seen l.disk) out (g.N.Sink.seen l.notes)) l.lines (tally_of l.progress);
   name : l.lines.name ≡ l.fn.lines.name;
   live : IsTrue l.lines.live;
   room : l.progress.accepted + l.progress.refused ≤ l.lines.count;
