@@ -112,6 +112,7 @@ pub record Broken (texts : Texts) (old new : Devices) : Type 0 where
 abbrev pub Sums : Texts → Devices → Devices → Type 0
 Sums texts old new = Told (GrewBy texts.summary) old.out.held new.out.held
 
+-- nothing was written to the output
 abbrev pub Silent : Devices → Devices → Type 0
 Silent old new = Told Same old.out.held new.out.held
 

@@ -12,6 +12,7 @@ pub record Plan : Type 0 where
   pub calls : ℕ
   pub failing : List ℕ
 
+-- no call was made, and none fails
 abbrev pub no_plan : Plan
 no_plan = record { calls = 0; failing = [] }
 
@@ -127,6 +128,7 @@ pub record Memory : Type 0 where
   pub read_faults : ℕ
   pub write_faults : ℕ
 
+-- no names, and no failure
 abbrev pub empty_memory : Memory
 empty_memory = record { files = []; read_faults = 0; write_faults = 0 }
 
@@ -149,6 +151,7 @@ pub record Stream : Type 0 where
   pub writes : Plan
   pub faults : ℕ
 
+-- no bytes, and no failure
 abbrev pub empty_stream : Stream
 empty_stream = record { bytes = []; writes = no_plan; faults = 0 }
 
