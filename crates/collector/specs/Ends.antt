@@ -1,11 +1,11 @@
--- What stands after each end of a run of `pass`.
-use Rattle.std.specs.Prelude.{◌≡◌, ◌<◌, ◌++◌, ◌⊎◌, true, false, List, take, Some, ℕ}
-use Rattle.contract_words.specs.Causes.{Rose}
+-- What stands at each end of a run, whatever its command means.
+use Rattle.std.specs.Prelude.{◌≡◌, ◌≢◌, ◌<◌, ◌++◌, ◌⊎◌, List, [], ◌∷◌, Option, Some, IfSome, IsSome, ℕ}
 use Rattle.contract_words.specs.Fronts.{IsFront, GrewByFront}
-use Rattle.contract_words.specs.Held.{Held, SameHeld}
-use Rattle.contract_words.specs.InputLines.{Taken}
-use Rattle.collector.specs.Words.{usage_line}
-use Rattle.collector.specs.Pass.{lines_in, passes_limit, pass_text, pass_notes, count_refused, summary}
+use Rattle.contract_words.specs.Held.{Held, SameHeld, rest_from}
+use Rattle.contract_words.specs.InputLines.{Taken, ended, too_long, taking, lines_of, taken_of}
+use Rattle.tele_io.specs.Views.{Told}
+use Rattle.collector.specs.Devices.{Devices}
+use Rattle.collector.specs.Meaning.{FileText, Texts, Meaning}
 use Rattle.collector.specs.declared.status.Status.{Status}
 use Rattle.collector.specs.declared.status.Status.TheVariants.{Done, SomeRefused, Usage, ReadFault, WriteFault, NoMemory, TooLong}
 
@@ -19,109 +19,118 @@ number_of WriteFault = 5
 number_of NoMemory = 6
 number_of TooLong = 7
 
--- these lines were passed: OUT holds their text, and their notes were written
-pub record AfterLines (lines : List (List ℕ)) (output : List ℕ) (new : Held) (notes_old notes_new : List ℕ) : Type 0 where
-  pub text : new output ≡ Some (pass_text lines)
-  pub notes : notes_new ≡ notes_old ++ pass_notes 1 lines
+-- what is taken of a file
+abbrev pub input_of : Option (List ℕ) → Taken
+input_of file = taken_of 0 (lines_of (rest_from file 0))
+
+-- these lines, and then what is left
+abbrev pub before : List (List ℕ) → Taken → Taken
+before [] rest = rest
+before (l ∷ ls) rest = taking l (before ls rest)
+
+-- the lines of the file are these, and then what is left; a file that isn't there has none
+pub record Begins (file : Option (List ℕ)) (lines : List (List ℕ)) (rest : Taken) : Type 0 where
+  pub there : IsSome file
+  pub is : input_of file ≡ before lines rest
+
+-- Which lines of the file a run took: all, those before one that passes a limit, or some first
+-- ones. A run whose write failed is measured by all.
+abbrev pub Took : Status → Option (List ℕ) → List (List ℕ) → Type 0
+Took Done file lines = Begins file lines ended
+Took SomeRefused file lines = Begins file lines ended
+Took TooLong file lines = Begins file lines too_long
+Took WriteFault file lines =
+    (input_of file ≡ before lines ended) ⊎ (input_of file ≡ before lines too_long)
+Took _ file lines = (rest : Taken) × (input_of file ≡ before lines rest)
+
+-- a complete run tells whether a line was refused
+abbrev pub Refuses : Status → ℕ → Type 0
+Refuses Done refused = refused ≡ 0
+Refuses SomeRefused refused = 0 < refused
+Refuses _ refused = Unit {0}
+
+-- each file holds its text
+abbrev pub HoldTexts : List FileText → Held → Type 0
+HoldTexts [] now = Unit {0}
+HoldTexts (f ∷ fs) now = (now f.name ≡ Some f.text) × HoldTexts fs now
+
+-- each file is as it was
+abbrev pub FilesStay : List FileText → Held → Held → Type 0
+FilesStay [] was now = Unit {0}
+FilesStay (f ∷ fs) was now = (now f.name ≡ was f.name) × FilesStay fs was now
+
+-- the file holds a front of its text
+pub record HoldsFront (f : FileText) (now : Held) : Type 0 where
+  pub front : List ℕ
+  pub holds : now f.name ≡ Some front
+  pub of_text : IsFront front f.text
+
+-- The first files, in their order, hold fronts of their texts; the next is as it was or empty,
+-- those behind it are as they were.
+abbrev pub HoldFronts : List FileText → Held → Held → Type 0
+HoldFronts [] was now = Unit {0}
+HoldFronts (f ∷ fs) was now =
+    (HoldsFront f now × HoldFronts fs was now)
+    ⊎ (((now f.name ≡ was f.name) ⊎ (now f.name ≡ Some [])) × FilesStay fs was now)
+
+-- the name is none of these files'
+abbrev pub IsNoFile : List ℕ → List FileText → Type 0
+IsNoFile name [] = Unit {0}
+IsNoFile name (f ∷ fs) = (name ≢ f.name) × IsNoFile name fs
+
+-- each other name holds what it held
+abbrev pub OnlyThese : List FileText → Held → Held → Type 0
+OnlyThese files was now = (name : List ℕ) → IsNoFile name files → now name ≡ was name
+
+-- what a sink held stands before this text
+abbrev pub GrewBy : List ℕ → List ℕ → List ℕ → Type 0
+GrewBy text was now = now ≡ was ++ text
+
+-- it holds what it held
+abbrev pub Same : List ℕ → List ℕ → Type 0
+Same was now = now ≡ was
+
+-- What is said of a device below holds where it tells what it holds.
+
+-- each file holds its text, and the notes were written
+pub record Whole (texts : Texts) (old new : Devices) : Type 0 where
+  pub files : Told (λ was now. HoldTexts texts.files now) old.disk.held new.disk.held
+  pub notes : Told (GrewBy texts.notes) old.notes.held new.notes.held
 
 -- nothing was written
-pub record Untouched (old new : Held) (notes_old notes_new : List ℕ) : Type 0 where
-  pub files : SameHeld old new
-  pub notes : notes_new ≡ notes_old
-
--- the text under a name is what it was, or a front of this one
-abbrev pub HoldsFront : List ℕ → List ℕ → Held → Held → Type 0
-HoldsFront text name old new = (new name ≡ old name) ⊎ ((front : List ℕ) × (new name ≡ Some front) × IsFront front text)
-
--- some first lines were passed, or nothing was written
-abbrev pub AfterSome : Taken → List ℕ → Held → Held → List ℕ → List ℕ → Type 0
-AfterSome input output old new notes_old notes_new =
-    Untouched old new notes_old notes_new
-    ⊎ ((count : ℕ) × AfterLines (take count (lines_in input)) output new notes_old notes_new)
+pub record Untouched (old new : Devices) : Type 0 where
+  pub files : Told SameHeld old.disk.held new.disk.held
+  pub notes : Told Same old.notes.held new.notes.held
 
 -- fronts of all texts were written
-pub record AfterFronts (input : Taken) (output : List ℕ) (old new : Held) (out_old out_new notes_old notes_new : List ℕ) : Type 0 where
-  pub text : HoldsFront (pass_text (lines_in input)) output old new
-  pub notes : GrewByFront (pass_notes 1 (lines_in input)) notes_old notes_new
-  pub out : GrewByFront (summary (lines_in input)) out_old out_new
+pub record Broken (texts : Texts) (old new : Devices) : Type 0 where
+  pub files : Told (HoldFronts texts.files) old.disk.held new.disk.held
+  pub notes : Told (GrewByFront texts.notes) old.notes.held new.notes.held
+  pub out : Told (GrewByFront texts.summary) old.out.held new.out.held
 
--- what a run of `pass` leaves in OUT, in the output and in the notes, by its status
-abbrev pub Leaves : Status → Taken → List ℕ → Held → Held → List ℕ → List ℕ → List ℕ → List ℕ → Type 0
-Leaves Done input output old new out_old out_new notes_old notes_new =
-    AfterLines (lines_in input) output new notes_old notes_new × (out_new ≡ out_old ++ summary (lines_in input))
-Leaves SomeRefused input output old new out_old out_new notes_old notes_new =
-    AfterLines (lines_in input) output new notes_old notes_new × (out_new ≡ out_old ++ summary (lines_in input))
-Leaves TooLong input output old new out_old out_new notes_old notes_new =
-    AfterLines (lines_in input) output new notes_old notes_new × (out_new ≡ out_old)
-Leaves ReadFault input output old new out_old out_new notes_old notes_new =
-    AfterSome input output old new notes_old notes_new × (out_new ≡ out_old)
-Leaves NoMemory input output old new out_old out_new notes_old notes_new =
-    AfterSome input output old new notes_old notes_new × (out_new ≡ out_old)
-Leaves WriteFault input output old new out_old out_new notes_old notes_new =
-    AfterFronts input output old new out_old out_new notes_old notes_new
-Leaves Usage input output old new out_old out_new notes_old notes_new = ⊥
+-- the summary was written, or nothing
+abbrev pub Sums : Texts → Devices → Devices → Type 0
+Sums texts old new = Told (GrewBy texts.summary) old.out.held new.out.held
 
--- what words of no command leave in the notes: the line of usage, or a front of it where it can't be written
-abbrev pub LeavesUsage : Status → List ℕ → List ℕ → Type 0
-LeavesUsage Usage notes_old notes_new = notes_new ≡ notes_old ++ usage_line
-LeavesUsage WriteFault notes_old notes_new = GrewByFront usage_line notes_old notes_new
-LeavesUsage Done notes_old notes_new = ⊥
-LeavesUsage SomeRefused notes_old notes_new = ⊥
-LeavesUsage ReadFault notes_old notes_new = ⊥
-LeavesUsage NoMemory notes_old notes_new = ⊥
-LeavesUsage TooLong notes_old notes_new = ⊥
+-- nothing was written to the output
+abbrev pub Silent : Devices → Devices → Type 0
+Silent old new = Told Same old.out.held new.out.held
 
--- what the status tells of the input
-abbrev pub Tells : Status → Taken → Type 0
-Tells Done input = (passes_limit input ≡ false) × (count_refused (lines_in input) ≡ 0)
-Tells SomeRefused input = (passes_limit input ≡ false) × (0 < count_refused (lines_in input))
-Tells TooLong input = passes_limit input ≡ true
-Tells ReadFault input = Unit {0}
-Tells NoMemory input = Unit {0}
-Tells WriteFault input = Unit {0}
-Tells Usage input = ⊥
+-- what is left of these texts by each status
+abbrev pub Leaves : Status → Texts → Devices → Devices → Type 0
+Leaves Done texts old new = Whole texts old new × Sums texts old new
+Leaves SomeRefused texts old new = Whole texts old new × Sums texts old new
+Leaves TooLong texts old new = Whole texts old new × Silent old new
+Leaves ReadFault texts old new = (Untouched old new ⊎ Whole texts old new) × Silent old new
+Leaves NoMemory texts old new = (Untouched old new ⊎ Whole texts old new) × Silent old new
+Leaves WriteFault texts old new = Broken texts old new
+Leaves Usage texts old new = ⊥
 
--- the counts of faults of the disk's reads, of its writes, of the output and of the notes
-pub record Faults : Type 0 where
-  pub reads : ℕ
-  pub writes : ℕ
-  pub out : ℕ
-  pub notes : ℕ
-
-abbrev pub faults : ℕ → ℕ → ℕ → ℕ → Faults
-faults reads writes out notes = record { reads = reads; writes = writes; out = out; notes = notes }
-
--- each count is as it was
-pub record SameFaults (old new : Faults) : Type 0 where
-  pub reads : new.reads ≡ old.reads
-  pub writes : new.writes ≡ old.writes
-  pub out : new.out ≡ old.out
-  pub notes : new.notes ≡ old.notes
-
--- a fault comes only where its count rose, and a complete run leaves all counts
-abbrev pub Caused : Status → Faults → Faults → Type 0
-Caused Done old new = SameFaults old new
-Caused SomeRefused old new = SameFaults old new
-Caused ReadFault old new = Rose old.reads new.reads
-Caused WriteFault old new = Rose old.writes new.writes ⊎ Rose old.out new.out ⊎ Rose old.notes new.notes
-Caused Usage old new = Unit {0}
-Caused NoMemory old new = Unit {0}
-Caused TooLong old new = Unit {0}
-
--- no count rose
-pub record NoneRose (old new : Faults) : Type 0 where
-  pub reads : Rose old.reads new.reads → ⊥
-  pub writes : Rose old.writes new.writes → ⊥
-  pub out : Rose old.out new.out → ⊥
-  pub notes : Rose old.notes new.notes → ⊥
-
--- What is answered where no count rose: within the limits a complete run tells whether a line was refused; past them it
--- is too long. Memory may run out.
-abbrev pub Answers : Status → Taken → Type 0
-Answers Done input = (passes_limit input ≡ false) × (count_refused (lines_in input) ≡ 0)
-Answers SomeRefused input = (passes_limit input ≡ false) × (0 < count_refused (lines_in input))
-Answers TooLong input = passes_limit input ≡ true
-Answers NoMemory input = Unit {0}
-Answers ReadFault input = ⊥
-Answers WriteFault input = ⊥
-Answers Usage input = ⊥
+-- A run of a command that means this took the devices from old to new, and ended so.
+pub record Runs (m : Meaning) (old new : Devices) (status : Status) : Type 0 where
+  -- the lines that were taken of the input, where the disk tells it
+  pub lines : List (List ℕ)
+  pub taken : IfSome old.disk.held (λ held. Took status (held m.input) lines)
+  pub refused : Refuses status (m.texts lines).refused
+  pub leaves : Leaves status (m.texts lines) old new
+  pub others : Told (OnlyThese (m.texts lines).files) old.disk.held new.disk.held

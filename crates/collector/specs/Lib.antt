@@ -1,10 +1,12 @@
--- The table of commands, and what `pass` makes of an input.
+-- The table of commands, what they mean, and what stands at each end of a run.
 pub mod Words
-pub mod Asked
+pub mod Commands
+pub mod Devices
+pub mod Meaning
+pub mod Ends
 pub mod Payload
 pub mod Pass
--- What stands after each end of a run.
-pub mod Ends
 -- Inside a run, from line to line.
-pub mod Progress
+pub mod Parsed
+pub mod Between
 pub mod Lines

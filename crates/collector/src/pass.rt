@@ -1,14 +1,19 @@
 //! `pass`: each accepted payload of an input is written in its one form.
 
-ghost use Rattle.std.specs.Prelude.{◌≡◌, ◌≢◌, ◌+◌, ◌<◌, ◌≤◌, [], OnOk, OnErr, IsTrue, Some, length};
-ghost use Rattle.contract_words.specs.Held.{OthersStay};
-ghost use Rattle.tele_io.specs.Mark.{IsAhead, left};
-ghost use Rattle.collector.specs.Progress.{Gathers, LineText, LineNote, LineCounts, LineBlames, WriteBlames, Notes, NoteBlames, Blames, LinesEnd};
+ghost use Rattle.std.specs.Prelude.{◌≡◌, ◌≢◌, ◌+◌, ◌<◌, ◌≤◌, ◌++◌, ◌∷◌, [], IfOk, OnOk, OnErr, IsTrue, is_err, length, codes};
+ghost use Rattle.contract_words.specs.InputLines.{max_line, max_lines};
+ghost use Rattle.tele_io.specs.Views.{SinkView, Told, Writes};
+ghost use Rattle.tele_io.specs.Mark.{start_of};
+ghost use Rattle.otlp_json.specs.Names.{fault_name};
+ghost use Rattle.collector.specs.Devices.{Devices, devices, Caused};
+ghost use Rattle.collector.specs.Lines.{step, flushing, Gathers, LineText, LineNote, LineCounts, status_by};
+ghost use Rattle.collector.specs.Pass.{note_of_fault, summary_by, pass_meaning};
+ghost use Rattle.collector.specs.Between.{start, Stands, LinesEnd};
 
 use crate::payload::rewrite;
 use otlp_json::{PayloadFault, PayloadStop};
-use std::alloc::Global;
-use tele_io::{Disk, LineStop, Lines, Sink, append_all, write_all};
+use std::alloc::{AllocError, Global};
+use tele_io::{Disk, DiskFault, LineStop, Lines, Sink, SinkFault, append_all, write_all};
 
 /// So many bytes are gathered before they are appended.
 const GATHERED: usize = 65_536;
@@ -37,12 +42,52 @@ impl From<LineStop> for Stop {
     }
 }
 
+impl From<DiskFault> for Stop {
+    ghost use Rattle.std.specs.Prelude.{◌≡◌};
+    ghost use Rattle.collector.specs.declared.pass.Stop.{Stop};
+
+    ghost from_gives = { λ _ result. result ≡ Stop.WriteFault };
+
+    fn from(_fault: DiskFault) -> Stop {
+        Stop::WriteFault
+    }
+}
+
+impl From<SinkFault> for Stop {
+    ghost use Rattle.std.specs.Prelude.{◌≡◌};
+    ghost use Rattle.collector.specs.declared.pass.Stop.{Stop};
+
+    ghost from_gives = { λ _ result. result ≡ Stop.WriteFault };
+
+    fn from(_fault: SinkFault) -> Stop {
+        Stop::WriteFault
+    }
+}
+
+impl From<AllocError> for Stop {
+    ghost use Rattle.std.specs.Prelude.{◌≡◌};
+    ghost use Rattle.collector.specs.declared.pass.Stop.{Stop};
+
+    ghost from_gives = { λ _ result. result ≡ Stop.NoMemory };
+
+    fn from(_error: AllocError) -> Stop {
+        Stop::NoMemory
+    }
+}
+
 /// What of the lines so far isn't written yet, and how many they are.
 #[derive(Drop)]
 pub struct Progress {
     pub gathered: Vec<u8>,
     pub accepted: u32,
     pub refused: u32,
+}
+
+/// The note of a refused line, under its payload number.
+fn note_of(alloc: Global, number: u32, fault: PayloadFault) -> Result<String, AllocError>
+    ensures { IfOk result (λ note. note.bytes.items ≡ note_of_fault number (fault_name fault)) }
+{
+    Ok(format!(in alloc; "payload {number} refused {fault}\n")?)
 }
 
 impl Progress {
@@ -59,80 +104,34 @@ impl Progress {
     }
 
     /// Appends what was gathered.
-    fn flush<D: Disk>(&mut self, output: &str, disk: &mut D) -> Result<(), Stop>
-        ensures text { D.tells disk.old
-            → Gathers output.now self.old.gathered.items self.new.gathered.items (D.held disk.old)
-            (D.held disk.new) result }
+    fn flush<D: Disk>(&mut self, output: &str, disk: &mut D) -> Result<(), DiskFault>
+        ensures text { Writes (is_err result)
+            (Gathers (flushing output.now self.old self.new) result)
+            (D.seen disk.old) (D.seen disk.new) }
         ensures emptied { OnOk result (self.new.gathered.items ≡ []) }
-        // When a fault comes.
-        ensures blame { WriteBlames (D.write_faults disk.old) (D.write_faults disk.new) result }
         // What stays.
         ensures accepted { self.new.accepted ≡ self.old.accepted }
         ensures refused { self.new.refused ≡ self.old.refused }
-        ensures others { D.tells disk.old → OthersStay output.now (D.held disk.old) (D.held disk.new) }
-        ensures tells { D.tells disk.old → D.tells disk.new }
-        ensures other_count { D.read_faults disk.new ≡ D.read_faults disk.old }
     {
-        match append_all(disk, output, self.gathered.as_slice()) {
-            Ok(()) => {
-                self.gathered.clear();
-                Ok(())
-            }
-            Err(_) => Err(Stop::WriteFault),
-        }
+        append_all(disk, output, self.gathered.as_slice())?;
+        self.gathered.clear();
+        Ok(())
     }
 
     /// Counts an accepted line, whose text is gathered.
-    fn accept<D: Disk>(&mut self, output: &str, disk: &mut D) -> Result<(), Stop>
-        requires { self.old.accepted + self.old.refused < 1000000 }
-        ensures text { D.tells disk.old
-            → Gathers output.now self.old.gathered.items self.new.gathered.items (D.held disk.old)
-            (D.held disk.new) result }
-        // When a fault comes.
-        ensures blame { WriteBlames (D.write_faults disk.old) (D.write_faults disk.new) result }
-        // What stays.
+    fn accept<D: Disk>(&mut self, output: &str, disk: &mut D) -> Result<(), DiskFault>
+        requires { self.old.accepted + self.old.refused < max_lines }
+        ensures text { Writes (is_err result)
+            (Gathers (flushing output.now self.old self.new) result)
+            (D.seen disk.old) (D.seen disk.new) }
         ensures accepted { self.new.accepted ≡ self.old.accepted + 1 }
         ensures refused { self.new.refused ≡ self.old.refused }
-        ensures others { D.tells disk.old → OthersStay output.now (D.held disk.old) (D.held disk.new) }
-        ensures tells { D.tells disk.old → D.tells disk.new }
-        ensures other_count { D.read_faults disk.new ≡ D.read_faults disk.old }
     {
         self.accepted += 1;
         if self.gathered.len() < GATHERED {
             return Ok(());
         }
         self.flush(output, disk)
-    }
-
-    /// Writes the note of a refused line.
-    fn refuse<N: Sink>(
-        &mut self,
-        alloc: Global,
-        fault: PayloadFault,
-        notes: &mut N,
-    ) -> Result<(), Stop>
-        requires { self.old.accepted + self.old.refused < 1000000 }
-        ensures gathered { self.new.gathered.items ≡ self.old.gathered.items }
-        ensures accepted { self.new.accepted ≡ self.old.accepted }
-        ensures refused { OnOk result (self.new.refused ≡ self.old.refused + 1) }
-        ensures unchanged { OnErr result (self.new.refused ≡ self.old.refused) }
-        ensures note { N.tells notes.old
-            → Notes (self.old.accepted + self.old.refused + 1) fault (N.held notes.old)
-            (N.held notes.new) result }
-        // When a fault comes.
-        ensures cause { NoteBlames (N.faults notes.old) (N.faults notes.new) result }
-        ensures tells { N.tells notes.old → N.tells notes.new }
-    {
-        let number = self.accepted + self.refused + 1;
-        let note = match format!(in alloc; "payload {number} refused {fault}\n") {
-            Ok(note) => note,
-            Err(_) => return Err(Stop::NoMemory),
-        };
-        if write_all(notes, note.as_bytes()).is_err() {
-            return Err(Stop::WriteFault);
-        }
-        self.refused += 1;
-        Ok(())
     }
 
     /// Takes one line: gathers the written form of its payload, or writes its note.
@@ -144,36 +143,35 @@ impl Progress {
         disk: &mut D,
         notes: &mut N,
     ) -> Result<(), Stop>
-        requires room { self.old.accepted + self.old.refused < 1000000 }
-        requires short { length line.now ≤ 16777216 }
-        ensures text { D.tells disk.old
-            → LineText output.now line.now self.old.gathered.items self.new.gathered.items
-            (D.held disk.old) (D.held disk.new) result }
-        ensures note { N.tells notes.old
-            → LineNote (self.old.accepted + self.old.refused + 1) line.now (N.held notes.old)
-            (N.held notes.new) result }
-        ensures counts { LineCounts line.now self.old.accepted self.new.accepted self.old.refused
-            self.new.refused result }
-        // When a fault comes.
-        ensures blame { LineBlames (D.write_faults disk.old) (D.write_faults disk.new) (N.faults notes.old)
-            (N.faults notes.new) result }
-        // What stays.
-        ensures others { D.tells disk.old → OthersStay output.now (D.held disk.old) (D.held disk.new) }
-        ensures tells { D.tells disk.old → D.tells disk.new }
-        ensures notes_tell { N.tells notes.old → N.tells notes.new }
-        ensures other_count { D.read_faults disk.new ≡ D.read_faults disk.old }
+        requires room { self.old.accepted + self.old.refused < max_lines }
+        requires short { length line.now ≤ max_line }
+        ensures text { Told
+            (LineText (step output.now line.now self.old self.new) result)
+            (D.seen disk.old).held (D.seen disk.new).held }
+        ensures note { Told (LineNote (step output.now line.now self.old self.new) result)
+            (N.seen notes.old).held (N.seen notes.new).held }
+        ensures counts { LineCounts (step output.now line.now self.old self.new) result }
+        // When a fault comes, whatever the output is.
+        ensures cause { (out : SinkView) → Caused (status_by result)
+            (devices (D.seen disk.old) out (N.seen notes.old))
+            (devices (D.seen disk.new) out (N.seen notes.new)) }
     {
         match rewrite(alloc, line, &mut self.gathered) {
-            Ok(()) => self.accept(output, disk),
+            Ok(()) => {
+                self.accept(output, disk)?;
+            }
             Err(PayloadStop::Fault(fault)) => {
                 self.flush(output, disk)?;
-                self.refuse(alloc, fault, notes)
+                let note = note_of(alloc, self.accepted + self.refused + 1, fault)?;
+                write_all(notes, note.as_bytes())?;
+                self.refused += 1;
             }
             Err(PayloadStop::NoMemory) => {
                 self.flush(output, disk)?;
-                Err(Stop::NoMemory)
+                return Err(Stop::NoMemory);
             }
         }
+        Ok(())
     }
 }
 
@@ -186,23 +184,22 @@ pub fn pass_lines<D: Disk, N: Sink>(
     disk: &mut D,
     notes: &mut N,
 ) -> Result<(), Stop>
-    requires live { IsTrue lines.old.live }
-    requires apart { lines.old.mark.name ≢ output.now }
+    requires first { lines.old ≡ start_of lines.old.name }
+    requires apart { lines.old.name ≢ output.now }
     requires fresh { (progress.old.gathered.items ≡ []) × (progress.old.accepted ≡ 0)
         × (progress.old.refused ≡ 0) }
-    ensures ends { (D.tells disk.old → (D.held disk.old output.now ≡ Some [])
-        × IsAhead (D.held disk.old lines.old.mark.name) lines.old.mark)
-        → LinesEnd (D.tells disk.old) (N.tells notes.old)
-        (left (D.held disk.old lines.old.mark.name) lines.old.mark) output.now (D.held disk.new)
-        (N.held notes.old) (N.held notes.new) progress.new.accepted progress.new.refused result }
-    ensures bound { progress.new.accepted + progress.new.refused ≤ 1000000 }
+    // From where a run stands before its first line, whatever it began with and whatever the output
+    // is.
+    ensures ends { let m = pass_meaning lines.old.name output.now in
+        (begun : Devices) (out : SinkView)
+        → Stands m (start ([] ∷ [])) begun (devices (D.seen disk.old) out (N.seen notes.old))
+        → LinesEnd m (summary_by progress.new.accepted progress.new.refused) progress.new.refused
+        begun (devices (D.seen disk.new) out (N.seen notes.new)) result }
+    ensures bound { progress.new.accepted + progress.new.refused ≤ max_lines }
     // When a fault comes.
-    ensures blame { Blames (D.read_faults disk.old) (D.read_faults disk.new) (D.write_faults disk.old)
-        (D.write_faults disk.new) (N.faults notes.old) (N.faults notes.new) result }
-    // What stays.
-    ensures others { D.tells disk.old → OthersStay output.now (D.held disk.old) (D.held disk.new) }
-    ensures tells { D.tells disk.old → D.tells disk.new }
-    ensures notes_tell { N.tells notes.old → N.tells notes.new }
+    ensures cause { (out : SinkView) → Caused (status_by result)
+        (devices (D.seen disk.old) out (N.seen notes.old))
+        (devices (D.seen disk.new) out (N.seen notes.new)) }
 {
     'lines: loop {
         match lines.next(disk) {
@@ -216,11 +213,16 @@ pub fn pass_lines<D: Disk, N: Sink>(
                 Ok(()) => {}
                 Err(stop) => return Err(stop),
             },
-            Ok(None) => return progress.flush(output, disk),
+            Ok(None) => {
+                return match progress.flush(output, disk) {
+                    Ok(()) => Ok(()),
+                    Err(_) => Err(Stop::WriteFault),
+                };
+            }
             Err(line_stop) => {
                 return match progress.flush(output, disk) {
                     Ok(()) => Err(Stop::from(line_stop)),
-                    Err(stop) => Err(stop),
+                    Err(_) => Err(Stop::WriteFault),
                 };
             }
         }

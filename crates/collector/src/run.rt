@@ -1,10 +1,11 @@
 //! The runs of the commands.
 
 ghost use Rattle.std.specs.Prelude.{◌≡◌, ◌≢◌, ◌+◌, ◌≤◌};
-ghost use Rattle.contract_words.specs.Held.{OthersStay};
-ghost use Rattle.collector.specs.Pass.{input_of};
-ghost use Rattle.collector.specs.Ends.{Leaves, Tells, faults, Caused, NoneRose, Answers};
-ghost use Rattle.collector.specs.Lines.{Sums};
+ghost use Rattle.contract_words.specs.InputLines.{max_lines};
+ghost use Rattle.collector.specs.Devices.{devices, Caused};
+ghost use Rattle.collector.specs.Ends.{Runs};
+ghost use Rattle.collector.specs.Lines.{SumsUp};
+ghost use Rattle.collector.specs.Pass.{pass_meaning};
 
 use crate::pass::{Progress, Stop, pass_lines};
 use crate::status::Status;
@@ -29,9 +30,8 @@ impl From<Stop> for Status {
 
 /// Writes the summary of a run that took all lines.
 fn sum_up<O: Sink>(alloc: Global, accepted: u32, refused: u32, out: &mut O) -> Status
-    requires { accepted + refused ≤ 1000000 }
-    ensures { Sums (O.tells out.old) result accepted refused (O.held out.old) (O.held out.new)
-        (O.faults out.old) (O.faults out.new) }
+    requires { accepted + refused ≤ max_lines }
+    ensures { SumsUp result accepted refused (O.seen out.old) (O.seen out.new) }
 {
     let payloads = accepted + refused;
     let line = match format!(in alloc;
@@ -51,7 +51,8 @@ fn sum_up<O: Sink>(alloc: Global, accepted: u32, refused: u32, out: &mut O) -> S
     }
 }
 
-/// Writes each accepted payload of the input in its one form. The output is created before the input is read.
+/// Writes each accepted payload of the input in its one form. The output is created before the
+/// input is read.
 pub fn run_pass<D: Disk, O: Sink, N: Sink>(
     alloc: Global,
     input: &str,
@@ -61,21 +62,12 @@ pub fn run_pass<D: Disk, O: Sink, N: Sink>(
     notes: &mut N,
 ) -> Status
     requires { input.now ≢ output.now }
-    // What stands at the end, where all is told.
-    ensures leaves { D.tells disk.old → O.tells out.old → N.tells notes.old
-        → Leaves result (input_of (D.held disk.old) input.now) output.now (D.held disk.old) (D.held disk.new)
-        (O.held out.old) (O.held out.new) (N.held notes.old) (N.held notes.new) }
-    ensures others { D.tells disk.old → OthersStay output.now (D.held disk.old) (D.held disk.new) }
-    // When each status comes.
-    ensures no_usage { result ≢ Status.Usage }
-    ensures told { D.tells disk.old → Tells result (input_of (D.held disk.old) input.now) }
+    ensures runs { Runs (pass_meaning input.now output.now)
+        (devices (D.seen disk.old) (O.seen out.old) (N.seen notes.old))
+        (devices (D.seen disk.new) (O.seen out.new) (N.seen notes.new)) result }
     ensures cause { Caused result
-        (faults (D.read_faults disk.old) (D.write_faults disk.old) (O.faults out.old) (N.faults notes.old))
-        (faults (D.read_faults disk.new) (D.write_faults disk.new) (O.faults out.new) (N.faults notes.new)) }
-    ensures complete { D.tells disk.old → NoneRose
-        (faults (D.read_faults disk.old) (D.write_faults disk.old) (O.faults out.old) (N.faults notes.old))
-        (faults (D.read_faults disk.new) (D.write_faults disk.new) (O.faults out.new) (N.faults notes.new))
-        → Answers result (input_of (D.held disk.old) input.now) }
+        (devices (D.seen disk.old) (O.seen out.old) (N.seen notes.old))
+        (devices (D.seen disk.new) (O.seen out.new) (N.seen notes.new)) }
 {
     let mut lines = match Lines::begin(alloc, input) {
         Ok(lines) => lines,

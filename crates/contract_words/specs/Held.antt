@@ -21,7 +21,8 @@ pub record Appended (name piece : List ℕ) (count : ℕ) (old new : Held) : Typ
 
 -- the name, where it was there, holds some front of the bytes behind what it held
 pub record AddsFront (name bytes : List ℕ) (old new : Held) : Type 0 where
-  pub front : (added : List ℕ) × IsFront added bytes × ((was : List ℕ) → old name ≡ Some was → new name ≡ Some (was ++ added))
+  pub front : (added : List ℕ) × IsFront added bytes
+      × ((was : List ℕ) → old name ≡ Some was → new name ≡ Some (was ++ added))
   pub absent : old name ≡ None → new name ≡ None
   pub others : OthersStay name old new
 

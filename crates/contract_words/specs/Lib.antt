@@ -1,4 +1,5 @@
--- What contracts of all crates say: causes of faults, answers, what a disk holds, lines of an input.
+-- What contracts of all crates say: causes of faults, answers, what a disk holds, lines of an
+-- input.
 pub mod Causes
 pub mod Gives
 pub mod Fronts

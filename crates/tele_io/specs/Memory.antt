@@ -3,6 +3,7 @@ use Rattle.std.specs.Prelude.{IsTrue, ◌≡◌, ◌≢◌, ◌+◌, ◌-◌, �
 use Rattle.std.specs.List.{list_any}
 use Rattle.std.specs.Str.{bytes_eq}
 use Rattle.contract_words.specs.Held.{Held}
+use Rattle.tele_io.specs.Views.{DiskView, SinkView}
 use Rattle.tele_io.specs.declared.memory.file.DiskOp.{DiskOp}
 use Rattle.tele_io.specs.declared.memory.file.DiskOp.TheVariants.{Read, Create, Append}
 
@@ -11,6 +12,7 @@ pub record Plan : Type 0 where
   pub calls : ℕ
   pub failing : List ℕ
 
+-- no call was made, and none fails
 abbrev pub no_plan : Plan
 no_plan = record { calls = 0; failing = [] }
 
@@ -20,7 +22,8 @@ one_more count = min (count + 1) (2 ^ 64 - 1)
 
 -- the next call fails; after 2^64 - 1 calls none does
 abbrev pub fails_next : Plan → Bool
-fails_next p = nat_lt p.calls (2 ^ 64 - 1) && list_any (λ nth. nth == p.calls + 1) p.failing
+fails_next p =
+    nat_lt p.calls (2 ^ 64 - 1) && list_any (λ nth. nth == p.calls + 1) p.failing
 
 -- one more call was made
 abbrev pub called : Plan → Plan
@@ -41,21 +44,16 @@ pub record File : Type 0 where
 
 -- of a name that was never put, created or named by a failure
 abbrev pub unknown : List ℕ → File
-unknown name = record { name = name; bytes = None; reads = no_plan; creates = no_plan; appends = no_plan }
+unknown name =
+    record { name = name; bytes = None; reads = no_plan; creates = no_plan; appends = no_plan }
 
 -- the name holds the bytes
 abbrev pub holding : List ℕ → File → File
-holding bytes f = record { name = f.name; bytes = Some bytes; reads = f.reads; creates = f.creates; appends = f.appends }
+holding bytes f = record f { bytes = Some bytes }
 
 -- the name holds the piece behind what it held
 abbrev pub grown : List ℕ → File → File
-grown piece f = record {
-  name = f.name;
-  bytes = option_map (λ bytes. bytes ++ piece) f.bytes;
-  reads = f.reads;
-  creates = f.creates;
-  appends = f.appends;
-}
+grown piece f = record f { bytes = option_map (λ bytes. bytes ++ piece) f.bytes }
 
 -- the plan of one kind of call
 abbrev pub plan_of : DiskOp → File → Plan
@@ -65,9 +63,9 @@ plan_of Append f = f.appends
 
 -- the plan of one kind of call is changed
 abbrev pub with_plan : DiskOp → (Plan → Plan) → File → File
-with_plan Read change f = record { name = f.name; bytes = f.bytes; reads = change f.reads; creates = f.creates; appends = f.appends }
-with_plan Create change f = record { name = f.name; bytes = f.bytes; reads = f.reads; creates = change f.creates; appends = f.appends }
-with_plan Append change f = record { name = f.name; bytes = f.bytes; reads = f.reads; creates = f.creates; appends = change f.appends }
+with_plan Read change f = record f { reads = change f.reads }
+with_plan Create change f = record f { creates = change f.creates }
+with_plan Append change f = record f { appends = change f.appends }
 
 -- what is known of a name, and a name that nothing is known of
 abbrev pub known : List ℕ → Option File → File
@@ -103,7 +101,8 @@ Puts name bytes old new = file_of new name ≡ Some (holding bytes (known name (
 
 -- one more call of that kind on the name fails
 abbrev pub Plans : DiskOp → List ℕ → ℕ → List File → List File → Type 0
-Plans op name nth old new = file_of new name ≡ Some (with_plan op (planned nth) (known name (file_of old name)))
+Plans op name nth old new =
+    file_of new name ≡ Some (with_plan op (planned nth) (known name (file_of old name)))
 
 -- the next call of that kind on the name fails
 abbrev pub IsPlanned : DiskOp → List ℕ → List File → Type 0
@@ -115,11 +114,13 @@ Counted op name old new = file_of new name ≡ option_map (with_plan op called) 
 
 -- the same, and the name then holds no bytes; it may have been unknown
 abbrev pub Creates : List ℕ → List File → List File → Type 0
-Creates name old new = file_of new name ≡ Some (holding [] (with_plan Create called (known name (file_of old name))))
+Creates name old new =
+    file_of new name ≡ Some (holding [] (with_plan Create called (known name (file_of old name))))
 
 -- the same, and the name then holds the piece behind what it held
 abbrev pub Grows : List ℕ → List ℕ → List File → List File → Type 0
-Grows name piece old new = file_of new name ≡ option_map (λ f. grown piece (with_plan Append called f)) (file_of old name)
+Grows name piece old new =
+    file_of new name ≡ option_map (λ f. grown piece (with_plan Append called f)) (file_of old name)
 
 -- a disk in memory
 pub record Memory : Type 0 where
@@ -127,8 +128,17 @@ pub record Memory : Type 0 where
   pub read_faults : ℕ
   pub write_faults : ℕ
 
+-- no names, and no failure
 abbrev pub empty_memory : Memory
 empty_memory = record { files = []; read_faults = 0; write_faults = 0 }
+
+-- as a disk it tells what it holds
+abbrev pub disk_view : Memory → DiskView
+disk_view m = record {
+  held = Some (held_of m.files);
+  read_faults = m.read_faults;
+  write_faults = m.write_faults;
+}
 
 -- no failure was counted
 pub record SameCounts (old new : Memory) : Type 0 where
@@ -141,5 +151,10 @@ pub record Stream : Type 0 where
   pub writes : Plan
   pub faults : ℕ
 
+-- no bytes, and no failure
 abbrev pub empty_stream : Stream
 empty_stream = record { bytes = []; writes = no_plan; faults = 0 }
+
+-- as a sink it tells what it holds
+abbrev pub sink_view : Stream → SinkView
+sink_view s = record { held = Some s.bytes; faults = s.faults }

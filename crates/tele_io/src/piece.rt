@@ -1,8 +1,8 @@
 //! Bytes of a file that were read ahead.
 
-ghost use Rattle.std.specs.Prelude.{◌≡◌, ◌+◌, ◌++◌, ◌≤◌, ◌<◌, ◌^◌, ◌==◌, ℕ, List, [], IsSome, IfOk, OnOk, OnErr, length, drop, slice_range};
-ghost use Rattle.contract_words.specs.Causes.{HasCause};
-ghost use Rattle.contract_words.specs.Held.{SameHeld, rest_from};
+ghost use Rattle.std.specs.Prelude.{◌≡◌, ◌+◌, ◌≤◌, ◌<◌, ◌^◌, ◌==◌, [], IfOk, OnOk, OnErr, is_err, length, drop};
+ghost use Rattle.tele_io.specs.Views.{Reads};
+ghost use Rattle.tele_io.specs.Mark.{Fills};
 
 use crate::disk::{Disk, DiskFault};
 use std::alloc::{AllocError, Global};
@@ -63,14 +63,10 @@ impl Piece {
     pub fn fill<D: Disk>(&mut self, disk: &mut D, name: &str, at: u64) -> Result<(), DiskFault>
         requires empty { self.old ≡ [] }
         requires room { at + 65536 < 2 ^ 64 }
-        ensures tells { D.tells disk.old → D.tells disk.new }
-        ensures bytes { D.tells disk.old → IfOk result (λ _. rest_from (D.held disk.old name.now) at ≡ self.new ++ rest_from (D.held disk.old name.now) (at + length self.new)) }
-        ensures end { D.tells disk.old → IfOk result (λ _. self.new ≡ [] → rest_from (D.held disk.old name.now) at ≡ []) }
-        ensures there { D.tells disk.old → OnOk result (IsSome (D.held disk.old name.now)) }
+        ensures read { Reads (is_err result)
+            (λ held. OnOk result (Fills (held name.now) at self.new))
+            (D.seen disk.old) (D.seen disk.new) }
         ensures err { OnErr result (self.new ≡ []) }
-        ensures unchanged { D.tells disk.old → SameHeld (D.held disk.old) (D.held disk.new) }
-        ensures cause { HasCause (D.read_faults disk.old) (D.read_faults disk.new) result }
-        ensures other_count { D.write_faults disk.new ≡ D.write_faults disk.old }
     {
         self.begin = 0;
         self.end = 0;

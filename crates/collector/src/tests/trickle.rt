@@ -1,9 +1,8 @@
 //! A disk and sinks that take one byte a call.
 
-ghost use Rattle.std.specs.Prelude.{None, []};
+ghost use Rattle.std.specs.Prelude.{None};
 
-use crate::status::Status;
-use crate::top::collector;
+use super::{run_words, tell};
 use std::test::Fail;
 use tele_io::{Disk, DiskFault, MemDisk, MemSink, Sink, SinkFault};
 
@@ -14,13 +13,7 @@ struct Trickle<T> {
 }
 
 impl Disk for Trickle<MemDisk> {
-    ghost tells = { λ _. ⊥ };
-
-    ghost held = { λ _ _. None };
-
-    ghost read_faults = { λ d. d.inner.read_faults };
-
-    ghost write_faults = { λ d. d.inner.write_faults };
+    ghost seen = { λ d. record { held = None; read_faults = d.inner.read_faults; write_faults = d.inner.write_faults } };
 
     fn read(&mut self, name: &str, at: u64, room: &mut [u8]) -> Result<usize, DiskFault> {
         let count = room.len().min(1);
@@ -37,11 +30,7 @@ impl Disk for Trickle<MemDisk> {
 }
 
 impl Sink for Trickle<MemSink> {
-    ghost tells = { λ _. ⊥ };
-
-    ghost held = { λ _. [] };
-
-    ghost faults = { λ s. s.inner.faults };
+    ghost seen = { λ s. record { held = None; faults = s.inner.faults } };
 
     fn write(&mut self, piece: &[u8]) -> Result<usize, SinkFault> {
         self.inner.write(&piece[..piece.len().min(1)])
@@ -49,39 +38,28 @@ impl Sink for Trickle<MemSink> {
 }
 
 #[test]
-fn a_disk_that_takes_one_byte_a_call_gets_the_same_bytes(rt: HostRuntime) -> Result<(), Fail> {
-    let mut inner = MemDisk::new(rt.alloc());
+fn devices_that_take_one_byte_a_call_get_the_same_bytes(rt: HostRuntime) -> Result<(), Fail> {
+    let alloc = rt.alloc();
+    let mut inner = MemDisk::new(alloc);
     inner.put("in", b"{}\n[]\n{}")?;
+    inner.put("other", b"kept")?;
     let mut disk = Trickle { inner };
     let mut out = Trickle {
-        inner: MemSink::new(rt.alloc()),
+        inner: MemSink::new(alloc),
     };
     let mut notes = Trickle {
-        inner: MemSink::new(rt.alloc()),
+        inner: MemSink::new(alloc),
     };
-    let mut words = Vec::new(rt.alloc());
-    for word in ["pass", "in", "out"] {
-        words.push(String::from_str(rt.alloc(), word)?)?;
-    }
-    let status = collector(
-        rt.alloc(),
-        words.as_slice(),
-        &mut disk,
-        &mut out,
-        &mut notes,
-    );
-    assert_eq!(rt; status, Status::SomeRefused);
-    assert_eq!(rt;
-        disk.inner.get("out"),
-        Some(b"{\"resourceLogs\":[]}\n{\"resourceLogs\":[]}\n".as_slice())
-    );
-    assert_eq!(rt;
+    let status = run_words(alloc, "pass|in|out", &mut disk, &mut out, &mut notes)?;
+    let told = tell(
+        alloc,
+        status,
+        &disk.inner,
         out.inner.bytes(),
-        b"payloads 3 accepted 2 refused 1\n".as_slice()
-    );
-    assert_eq!(rt;
         notes.inner.bytes(),
-        b"payload 2 refused NotBuilt\n".as_slice()
-    );
+    )?;
+    let want =
+        b"SomeRefused|{\"resourceLogs\":[]}\n{\"resourceLogs\":[]}\n|payloads 3 accepted 2 refused 1\n|payload 2 refused NotBuilt\n";
+    assert_eq!(rt; told.as_slice(), want.as_slice());
     Ok(())
 }

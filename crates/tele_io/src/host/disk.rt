@@ -61,7 +61,8 @@ impl<R: Files> HostDisk<R> {
         }
     }
 
-    // Reads on in the file that is open under this name, or in one that is opened here; after an error none is open.
+    // Reads on in the file that is open under this name, or in one that is opened here; after an
+    // error none is open.
     fn read_at(&mut self, name: &str, at: u64, room: &mut [u8]) -> io::Result<usize>
         requires { at + length room.old < 2 ^ 64 }
         ensures count { IfOk result (λ n. n ≤ length room.old) }
@@ -95,7 +96,8 @@ impl<R: Files> HostDisk<R> {
         Ok(())
     }
 
-    // Writes on to the file that is open under this name, or to one that is opened here; after an error none is open.
+    // Writes on to the file that is open under this name, or to one that is opened here; after an
+    // error none is open.
     fn append_to(&mut self, name: &str, piece: &[u8]) -> io::Result<usize>
         ensures count { IfOk result (λ n. n ≤ length piece.now) }
         ensures some { IfOk result (λ n. 0 < length piece.now → 0 < n) }
@@ -118,13 +120,11 @@ impl<R: Files> HostDisk<R> {
 impl<R: Files> Disk for HostDisk<R> {
     ghost use Rattle.std.specs.Prelude.{None};
 
-    ghost tells = { λ _. ⊥ };
-
-    ghost held = { λ _ _. None };
-
-    ghost read_faults = { λ d. d.read_faults };
-
-    ghost write_faults = { λ d. d.write_faults };
+    ghost seen = { λ d. record {
+      held = None;
+      read_faults = d.read_faults;
+      write_faults = d.write_faults;
+    } };
 
     fn read(&mut self, name: &str, at: u64, room: &mut [u8]) -> Result<usize, DiskFault> {
         match self.read_at(name, at, room) {

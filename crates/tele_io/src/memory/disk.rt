@@ -1,12 +1,11 @@
 //! A disk in memory.
 
-ghost use Rattle.std.specs.Prelude.{◌≡◌, ◌≤◌, ◌↔◌, ◌⊎◌, [], Some, None, length, option_map, IsNone, IfSome, IsErr, IfOk, IsTrue, IsFalse, OnOk, OnErr};
+ghost use Rattle.std.specs.Prelude.{◌≡◌, ◌≤◌, ◌↔◌, ◌⊎◌, [], Some, None, length, option_map, IsNone, IfSome, IsErr, IfOk, IsTrue, IsFalse, OnOk, OnErr, is_err};
 ghost use Rattle.std.specs.List.{position};
 ghost use Rattle.std.specs.Str.{bytes_eq};
-ghost use Rattle.contract_words.specs.Causes.{HasCause};
-ghost use Rattle.contract_words.specs.Held.{SameHeld, Appended};
-ghost use Rattle.tele_io.specs.Calls.{PutsBytes};
-ghost use Rattle.tele_io.specs.Memory.{empty_memory, file_of, held_of, holding, unknown, called, with_plan, Puts, Plans, IsPlanned, Counted, Creates, Grows, OtherFiles, SameCounts};
+ghost use Rattle.tele_io.specs.Views.{Reads, Writes};
+ghost use Rattle.tele_io.specs.Calls.{PutsBytes, Empties, Appends};
+ghost use Rattle.tele_io.specs.Memory.{empty_memory, file_of, held_of, holding, unknown, called, with_plan, Puts, Plans, IsPlanned, Counted, Creates, Grows, OtherFiles, SameCounts, disk_view};
 
 use crate::disk::{Disk, DiskFault};
 use crate::memory::file::{DiskOp, MemFile};
@@ -26,7 +25,11 @@ impl Model for MemDisk {
 
     ghost Value = { Memory };
 
-    ghost view = { λ d. record { files = d.files.items; read_faults = d.read_faults; write_faults = d.write_faults } };
+    ghost view = { λ d. record {
+      files = d.files.items;
+      read_faults = d.read_faults;
+      write_faults = d.write_faults;
+    } };
 }
 
 fn find(files: &[MemFile], name: &str) -> Option<usize>
@@ -67,8 +70,8 @@ impl MemDisk {
         Ok(())
     }
 
-    /// Lets the nth call of that kind on the name fail, counted from 1 since the name was first put, created or named
-    /// here, with the create that made it.
+    /// Lets the nth call of that kind on the name fail, counted from 1 since the name was first
+    /// put, created or named here, with the create that made it.
     pub fn fail(&mut self, op: DiskOp, name: &str, nth: u64) -> Result<(), AllocError>
         ensures ok { OnOk result (Plans op name.now nth self.old.files self.new.files) }
         ensures err { OnErr result (self.new ≡ self.old) }
@@ -100,8 +103,10 @@ impl MemDisk {
 // Reads from that place on; nothing where the call fails or the name isn't there.
 fn read_file(files: &mut Vec<MemFile>, name: &str, at: u64, room: &mut [u8]) -> Option<usize>
     ensures count { IfSome result (λ n. n ≤ length room.old) }
-    ensures bytes { IfSome result (PutsBytes (held_of files.old.items name.now) at room.old room.new) }
-    ensures none { IsNone result ↔ (IsPlanned DiskOp.Read name.now files.old.items ⊎ (held_of files.old.items name.now ≡ None)) }
+    ensures bytes { IfSome result
+        (PutsBytes (held_of files.old.items name.now) at room.old room.new) }
+    ensures none { IsNone result ↔ (IsPlanned DiskOp.Read name.now files.old.items
+        ⊎ (held_of files.old.items name.now ≡ None)) }
     ensures counted { Counted DiskOp.Read name.now files.old.items files.new.items }
     ensures others { OtherFiles name.now files.old.items files.new.items }
 {
@@ -116,7 +121,8 @@ fn append_file(files: &mut Vec<MemFile>, name: &str, piece: &[u8]) -> bool
     ensures planned { IsPlanned DiskOp.Append name.now files.old.items → IsFalse result }
     ensures absent { held_of files.old.items name.now ≡ None → IsFalse result }
     ensures added { IsTrue result → Grows name.now piece.now files.old.items files.new.items }
-    ensures counted { IsFalse result → Counted DiskOp.Append name.now files.old.items files.new.items }
+    ensures counted { IsFalse result
+        → Counted DiskOp.Append name.now files.old.items files.new.items }
     ensures others { OtherFiles name.now files.old.items files.new.items }
 {
     match find(files.as_slice(), name) {
@@ -128,7 +134,8 @@ fn append_file(files: &mut Vec<MemFile>, name: &str, piece: &[u8]) -> bool
 // Adds a file without bytes under a new name, and tells whether there was memory.
 fn add_file(files: &mut Vec<MemFile>, name: &str) -> Result<(), AllocError>
     requires { file_of files.old.items name.now ≡ None }
-    ensures ok { OnOk result (file_of files.new.items name.now ≡ Some (holding [] (with_plan DiskOp.Create called (unknown name.now)))) }
+    ensures ok { OnOk result (file_of files.new.items name.now
+        ≡ Some (holding [] (with_plan DiskOp.Create called (unknown name.now)))) }
     ensures err { OnErr result (files.new.items ≡ files.old.items) }
     ensures others { OtherFiles name.now files.old.items files.new.items }
 {
@@ -141,9 +148,11 @@ fn add_file(files: &mut Vec<MemFile>, name: &str) -> Result<(), AllocError>
 // Lets the name hold no bytes, and tells whether the call went well.
 fn create_file(files: &mut Vec<MemFile>, name: &str) -> bool
     ensures planned { IsPlanned DiskOp.Create name.now files.old.items → IsFalse result }
-    ensures room { IsFalse result → IsPlanned DiskOp.Create name.now files.old.items ⊎ (file_of files.old.items name.now ≡ None) }
+    ensures room { IsFalse result → IsPlanned DiskOp.Create name.now files.old.items
+        ⊎ (file_of files.old.items name.now ≡ None) }
     ensures created { IsTrue result → Creates name.now files.old.items files.new.items }
-    ensures counted { IsFalse result → Counted DiskOp.Create name.now files.old.items files.new.items }
+    ensures counted { IsFalse result
+        → Counted DiskOp.Create name.now files.old.items files.new.items }
     ensures others { OtherFiles name.now files.old.items files.new.items }
 {
     match find(files.as_slice(), name) {
@@ -156,28 +165,21 @@ fn create_file(files: &mut Vec<MemFile>, name: &str) -> bool
 }
 
 impl Disk for MemDisk {
-    ghost use Rattle.tele_io.specs.Memory.{held_of};
+    ghost use Rattle.tele_io.specs.Memory.{disk_view};
 
-    ghost tells = { λ _. Unit {0} };
-
-    ghost held = { λ d. held_of d.files };
-
-    ghost read_faults = { λ d. d.read_faults };
-
-    ghost write_faults = { λ d. d.write_faults };
+    ghost seen = { disk_view };
 
     /// Takes no memory.
     fn read(&mut self, name: &str, at: u64, room: &mut [u8]) -> Result<usize, DiskFault>
         ensures count { IfOk result (λ n. n ≤ length room.old) }
-        ensures bytes { IfOk result (PutsBytes (held_of self.old.files name.now) at room.old room.new) }
+        ensures read { Reads (is_err result)
+            (λ held. IfOk result (PutsBytes (held name.now) at room.old room.new))
+            (disk_view self.old) (disk_view self.new) }
         // When it fails, and what counts the call.
-        ensures fails { IsErr result ↔ (IsPlanned DiskOp.Read name.now self.old.files ⊎ (held_of self.old.files name.now ≡ None)) }
+        ensures fails { IsErr result ↔ (IsPlanned DiskOp.Read name.now self.old.files
+            ⊎ (held_of self.old.files name.now ≡ None)) }
         ensures counted { Counted DiskOp.Read name.now self.old.files self.new.files }
-        ensures cause { HasCause self.old.read_faults self.new.read_faults result }
-        // What stays.
-        ensures unchanged { SameHeld (held_of self.old.files) (held_of self.new.files) }
         ensures others { OtherFiles name.now self.old.files self.new.files }
-        ensures other_count { self.new.write_faults ≡ self.old.write_faults }
     {
         match read_file(&mut self.files, name, at, room) {
             Some(count) => Ok(count),
@@ -189,15 +191,15 @@ impl Disk for MemDisk {
     }
 
     fn create(&mut self, name: &str) -> Result<(), DiskFault>
+        ensures create { Writes (is_err result) (Empties name.now result)
+            (disk_view self.old) (disk_view self.new) }
         ensures ok { OnOk result (Creates name.now self.old.files self.new.files) }
         ensures err { OnErr result (Counted DiskOp.Create name.now self.old.files self.new.files) }
         // When it fails: memory is wanted for a new name alone.
         ensures planned { IsPlanned DiskOp.Create name.now self.old.files → IsErr result }
-        ensures room { IsErr result → IsPlanned DiskOp.Create name.now self.old.files ⊎ (file_of self.old.files name.now ≡ None) }
-        ensures cause { HasCause self.old.write_faults self.new.write_faults result }
-        // What stays.
+        ensures room { IsErr result → IsPlanned DiskOp.Create name.now self.old.files
+            ⊎ (file_of self.old.files name.now ≡ None) }
         ensures others { OtherFiles name.now self.old.files self.new.files }
-        ensures other_count { self.new.read_faults ≡ self.old.read_faults }
     {
         if create_file(&mut self.files, name) {
             return Ok(());
@@ -209,17 +211,14 @@ impl Disk for MemDisk {
     /// Takes the whole piece.
     fn append(&mut self, name: &str, piece: &[u8]) -> Result<usize, DiskFault>
         ensures whole { IfOk result (λ n. n ≡ length piece.now) }
-        ensures added { IfOk result (λ n. Appended name.now piece.now n (held_of self.old.files) (held_of self.new.files)) }
+        ensures append { Writes (is_err result) (Appends name.now piece.now result)
+            (disk_view self.old) (disk_view self.new) }
         ensures ok { OnOk result (Grows name.now piece.now self.old.files self.new.files) }
         ensures err { OnErr result (Counted DiskOp.Append name.now self.old.files self.new.files) }
         // When it fails, want of memory aside.
         ensures planned { IsPlanned DiskOp.Append name.now self.old.files → IsErr result }
         ensures absent { held_of self.old.files name.now ≡ None → IsErr result }
-        ensures cause { HasCause self.old.write_faults self.new.write_faults result }
-        // What stays.
-        ensures unchanged { OnErr result (SameHeld (held_of self.old.files) (held_of self.new.files)) }
         ensures others { OtherFiles name.now self.old.files self.new.files }
-        ensures other_count { self.new.read_faults ≡ self.old.read_faults }
     {
         if append_file(&mut self.files, name, piece) {
             return Ok(piece.len());

@@ -1,8 +1,9 @@
 //! A sink in memory.
 
-ghost use Rattle.std.specs.Prelude.{◌≡◌, ◌++◌, length, IsErr, IfOk, IsTrue, OnOk, OnErr};
-ghost use Rattle.contract_words.specs.Causes.{HasCause};
-ghost use Rattle.tele_io.specs.Memory.{empty_stream, called, fails_next, planned};
+ghost use Rattle.std.specs.Prelude.{◌≡◌, length, IsErr, IfOk, IsTrue, OnOk, OnErr, is_err};
+ghost use Rattle.tele_io.specs.Views.{Sends};
+ghost use Rattle.tele_io.specs.Calls.{Receives};
+ghost use Rattle.tele_io.specs.Memory.{empty_stream, called, fails_next, planned, sink_view};
 
 use crate::memory::schedule::Schedule;
 use crate::sink::{Sink, SinkFault};
@@ -45,7 +46,8 @@ impl MemSink {
 
     /// Lets the nth write fail, counted from 1.
     pub fn fail(&mut self, nth: u64) -> Result<(), AllocError>
-        ensures ok { OnOk result (self.new ≡ record { bytes = self.old.bytes; writes = planned nth self.old.writes; faults = self.old.faults }) }
+        ensures ok { OnOk result
+            (self.new ≡ record self.old { writes = planned nth self.old.writes }) }
         ensures err { OnErr result (self.new ≡ self.old) }
     {
         self.writes.fail(nth)
@@ -53,21 +55,18 @@ impl MemSink {
 }
 
 impl Sink for MemSink {
-    ghost tells = { λ _. Unit {0} };
+    ghost use Rattle.tele_io.specs.Memory.{sink_view};
 
-    ghost held = { λ s. s.bytes };
-
-    ghost faults = { λ s. s.faults };
+    ghost seen = { sink_view };
 
     /// Takes the whole piece.
     fn write(&mut self, piece: &[u8]) -> Result<usize, SinkFault>
         ensures whole { IfOk result (λ n. n ≡ length piece.now) }
-        ensures ok { OnOk result (self.new.bytes ≡ self.old.bytes ++ piece.now) }
-        ensures err { OnErr result (self.new.bytes ≡ self.old.bytes) }
+        ensures write { Sends (is_err result) (Receives piece.now result)
+            (sink_view self.old) (sink_view self.new) }
         // When it fails, want of memory aside, and what counts the call.
         ensures planned { IsTrue (fails_next self.old.writes) → IsErr result }
         ensures counted { self.new.writes ≡ called self.old.writes }
-        ensures cause { HasCause self.old.faults self.new.faults result }
     {
         if !self.writes.call() && self.bytes.extend_from_slice(piece).is_ok() {
             return Ok(piece.len());

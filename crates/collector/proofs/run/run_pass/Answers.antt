@@ -1,44 +1,70 @@
--- The input is as it was when OUT had been created, so what the lines left is what the definition says of the input.
-use Rattle.std.proofs.Common.{◌≡◌, [], List, ℕ, Option, inl, inr, refl, subst, ap}
-use Rattle.contract_words.specs.Held.{Held}
-use Rattle.contract_words.specs.InputLines.{Taken}
-use Rattle.tele_io.specs.Mark.{left}
-use Rattle.tele_io.specs.Reading.{Progress, start_of}
-use Rattle.collector.specs.Pass.{input_of}
-use Rattle.collector.specs.Ends.{Leaves}
+-- What the lines left, and the summary behind them, is what the run means.
+use Rattle.std.proofs.Common.{◌≡◌, List, ℕ, ap, subst}
+use Rattle.tele_io.specs.Mark.{Mark}
+use Rattle.collector.specs.Devices.{devices}
+use Rattle.collector.specs.Ends.{Runs}
+use Rattle.collector.specs.Pass.{pass_meaning, summary_by}
+use Rattle.collector.specs.Between.{Completes}
 use Rattle.collector.specs.Lines.{status_of}
-use Rattle.collector.proofs.EndLemmas.{leaves-by-stop, leaves-by-sum, grew-by-nothing, empty-front}
+use Rattle.collector.proofs.Causes.{stay-then, caused-after, write-stays}
+use Rattle.collector.proofs.RunLemmas.{runs-untouched, runs-uncreated, stands-created, runs-summed, sum-causes}
 use Rattle.collector.proofs.run.run_pass.Goals as goal
 
--- what lines that stand at the start will take is the input
-whole : (held now : Held) (lines : Progress) (name : List ℕ) → lines ≡ start_of name → now name ≡ held name → left (now lines.mark.name) lines.mark ≡ input_of held name
-whole held now lines name start same = rw start (ap (λ (f : Option (List ℕ)). left f (start_of name).mark) same)
+pub returns-in-Err-clause-runs : goal.returns-in-Err-clause-runs
+returns-in-Err-clause-runs g c =
+    runs-untouched _ _ (devices (g.D.Disk.seen c.args.disk.now) (g.O.Sink.seen c.args.out.now) (g.N.Sink.seen c.args.notes.now))
 
-pub returns-in-Err-create-clause-leaves : goal.returns-in-Err-create-clause-leaves
-returns-in-Err-create-clause-leaves g c = λ told out_told note_told. record {
-  text = elim (c.in-Err-create.ensures.err told) [
-    | inl same ↦ inl same
-    | inr empty ↦ inr ([], empty, empty-front _)
-  ];
-  notes = grew-by-nothing _ _ _ refl;
-  out = grew-by-nothing _ _ _ refl;
-}
+pub returns-in-Err-create-clause-runs : goal.returns-in-Err-create-clause-runs
+returns-in-Err-create-clause-runs g c = runs-uncreated _ _ _ _ _ _ c.in-Err-create.ensures
 
-pub returns-in-Ok-pass_lines-clause-leaves : goal.returns-in-Ok-pass_lines-clause-leaves
-returns-in-Ok-pass_lines-clause-leaves g c = λ told out_told note_told.
-    let input = whole (g.D.Disk.held c.args.disk.now) (g.D.Disk.held c.create.new.self) c.in-Ok.lines c.args.input.now c.in-Ok.ensures.at_start (c.create.ensures.others told c.args.input.now c.requires) in
-    let ends = c.in-Ok-pass_lines.ensures.ends (λ tells. (c.in-Ok-create.ensures.ok told, c.in-Ok.ensures.ahead _)) in
-    subst
-    (λ (taken : Taken). Leaves c.sum_up.result taken c.args.output.now (g.D.Disk.held c.args.disk.now) (g.D.Disk.held c.pass_lines.new.disk) (g.O.Sink.held c.args.out.now) (g.O.Sink.held c.sum_up.new.out) (g.N.Sink.held c.args.notes.now) (g.N.Sink.held c.pass_lines.new.notes))
-    input
-    (leaves-by-sum _ _ _ _ _ _ _ _ _ _ _ c.sum_up.result _ _ _ _ ends c.sum_up.ensures (c.create.ensures.tells told) out_told note_told)
+pub returns-in-Ok-pass_lines-clause-runs : goal.returns-in-Ok-pass_lines-clause-runs
+returns-in-Ok-pass_lines-clause-runs g c =
+    let out = g.O.Sink.seen c.args.out.now in
+    let disk = g.D.Disk.seen c.pass_lines.new.disk in
+    let notes = g.N.Sink.seen c.pass_lines.new.notes in
+    let old = devices (g.D.Disk.seen c.args.disk.now) out (g.N.Sink.seen c.args.notes.now) in
+    let named : c.in-Ok.lines.name ≡ c.args.input.now = ap (λ (p : Mark). p.name) c.in-Ok.ensures.at_start in
+    let accepted = c.pass_lines.new.progress.accepted in
+    let refused = c.pass_lines.new.progress.refused in
+    let ends = c.in-Ok-pass_lines.ensures.ends old out (stands-created _ _ _ _ _ _ c.in-Ok-create.ensures) in
+    runs-summed _ old disk out (g.O.Sink.seen c.sum_up.new.out) notes accepted refused
+    (subst (λ (name : List ℕ). Completes (pass_meaning name c.args.output.now) (summary_by accepted refused) refused old (devices disk out notes)) named ends)
+    c.sum_up.result c.sum_up.ensures
 
-pub returns-clause-leaves : goal.returns-clause-leaves
-returns-clause-leaves g c = λ told out_told note_told.
-    let input = whole (g.D.Disk.held c.args.disk.now) (g.D.Disk.held c.create.new.self) c.in-Ok.lines c.args.input.now c.in-Ok.ensures.at_start (c.create.ensures.others told c.args.input.now c.requires) in
-    let ends = c.in-Err-pass_lines.ensures.ends (λ tells. (c.in-Ok-create.ensures.ok told, c.in-Ok.ensures.ahead _)) in
+pub returns-clause-runs : goal.returns-clause-runs
+returns-clause-runs g c =
+    let out = g.O.Sink.seen c.args.out.now in
+    let new = devices (g.D.Disk.seen c.pass_lines.new.disk) out (g.N.Sink.seen c.pass_lines.new.notes) in
+    let old = devices (g.D.Disk.seen c.args.disk.now) out (g.N.Sink.seen c.args.notes.now) in
+    let named : c.in-Ok.lines.name ≡ c.args.input.now = ap (λ (p : Mark). p.name) c.in-Ok.ensures.at_start in
+    let ends = c.in-Err-pass_lines.ensures.ends old out (stands-created _ _ _ _ _ _ c.in-Ok-create.ensures) in
     rw c.from.ensures
-    (subst
-    (λ (taken : Taken). Leaves (status_of c.in-Err-pass_lines.stop) taken c.args.output.now (g.D.Disk.held c.args.disk.now) (g.D.Disk.held c.pass_lines.new.disk) (g.O.Sink.held c.args.out.now) (g.O.Sink.held c.args.out.now) (g.N.Sink.held c.args.notes.now) (g.N.Sink.held c.pass_lines.new.notes))
-    input
-    (leaves-by-stop _ _ _ _ (g.D.Disk.held c.args.disk.now) _ _ _ _ _ c.in-Err-pass_lines.stop (g.O.Sink.held c.args.out.now) ends (c.create.ensures.tells told) note_told))
+    (subst (λ (name : List ℕ). Runs (pass_meaning name c.args.output.now) old new (status_of c.in-Err-pass_lines.stop)) named ends)
+
+pub returns-in-Ok-pass_lines-clause-cause : goal.returns-in-Ok-pass_lines-clause-cause
+returns-in-Ok-pass_lines-clause-cause g c =
+    let out = g.O.Sink.seen c.args.out.now in
+    let notes = g.N.Sink.seen c.args.notes.now in
+    let old_disk = g.D.Disk.seen c.args.disk.now in
+    let mid_disk = g.D.Disk.seen c.create.new.self in
+    let disk = g.D.Disk.seen c.pass_lines.new.disk in
+    let new_notes = g.N.Sink.seen c.pass_lines.new.notes in
+    let new_out = g.O.Sink.seen c.sum_up.new.out in
+    let d0 = devices old_disk out notes in
+    let d1 = devices mid_disk out notes in
+    let d2 = devices disk out new_notes in
+    let d3 = devices disk new_out new_notes in
+    caused-after d0 d2 d3 c.sum_up.result (stay-then d0 d1 d2 (write-stays old_disk mid_disk out notes c.in-Ok-create.ensures) (c.in-Ok-pass_lines.ensures.cause out))
+    (sum-causes c.sum_up.result disk out new_out new_notes c.pass_lines.new.progress.accepted c.pass_lines.new.progress.refused c.sum_up.ensures)
+
+pub returns-clause-cause : goal.returns-clause-cause
+returns-clause-cause g c =
+    let out = g.O.Sink.seen c.args.out.now in
+    let notes = g.N.Sink.seen c.args.notes.now in
+    let old_disk = g.D.Disk.seen c.args.disk.now in
+    let mid_disk = g.D.Disk.seen c.create.new.self in
+    let d0 = devices old_disk out notes in
+    let d1 = devices mid_disk out notes in
+    let d2 = devices (g.D.Disk.seen c.pass_lines.new.disk) out (g.N.Sink.seen c.pass_lines.new.notes) in
+    rw c.from.ensures
+    (caused-after d0 d1 d2 (status_of c.in-Err-pass_lines.stop) (write-stays old_disk mid_disk out notes c.in-Ok-create.ensures) (c.in-Err-pass_lines.ensures.cause out))

@@ -1,22 +1,17 @@
-//! A disk and a sink that take one byte a call.
+//! A disk and a sink that take so many bytes a call.
 
 use crate::{Disk, DiskFault, MemDisk, MemSink, Sink, SinkFault};
 
 #[derive(Drop)]
 pub struct SlowDisk {
     pub disk: MemDisk,
+    pub most: usize,
 }
 
 impl Disk for SlowDisk {
-    ghost use Rattle.tele_io.specs.Memory.{held_of};
+    ghost use Rattle.tele_io.specs.Memory.{disk_view};
 
-    ghost tells = { λ _. Unit {0} };
-
-    ghost held = { λ d. held_of d.disk.files };
-
-    ghost read_faults = { λ d. d.disk.read_faults };
-
-    ghost write_faults = { λ d. d.disk.write_faults };
+    ghost seen = { λ d. disk_view d.disk };
 
     fn read(&mut self, name: &str, at: u64, room: &mut [u8]) -> Result<usize, DiskFault> {
         self.disk.read(name, at, room)
@@ -27,23 +22,23 @@ impl Disk for SlowDisk {
     }
 
     fn append(&mut self, name: &str, piece: &[u8]) -> Result<usize, DiskFault> {
-        self.disk.append(name, &piece[..piece.len().min(1)])
+        self.disk
+            .append(name, &piece[..piece.len().min(self.most.max(1))])
     }
 }
 
 #[derive(Drop)]
 pub struct SlowSink {
     pub sink: MemSink,
+    pub most: usize,
 }
 
 impl Sink for SlowSink {
-    ghost tells = { λ _. Unit {0} };
+    ghost use Rattle.tele_io.specs.Memory.{sink_view};
 
-    ghost held = { λ s. s.sink.bytes };
-
-    ghost faults = { λ s. s.sink.faults };
+    ghost seen = { λ s. sink_view s.sink };
 
     fn write(&mut self, piece: &[u8]) -> Result<usize, SinkFault> {
-        self.sink.write(&piece[..piece.len().min(1)])
+        self.sink.write(&piece[..piece.len().min(self.most.max(1))])
     }
 }

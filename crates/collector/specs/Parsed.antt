@@ -1,0 +1,10 @@
+-- A command that was parsed, as the command of the table that it is.
+use Rattle.std.specs.Prelude.{Option, Some, None}
+use Rattle.collector.specs.Words as words
+use Rattle.collector.specs.declared.words.Command.{Command}
+use Rattle.collector.specs.declared.words.Command.TheVariants.{Pass}
+
+-- None where the words are no command
+abbrev pub parsed : Option Command → Option words.Command
+parsed None = None
+parsed (Some (Pass input output)) = Some (words.pass input.now output.now)
