@@ -1,0 +1,12 @@
+//! Statements and conditions of OTTL: parsed form, parser, and printing.
+#![tactic(auto)]
+
+mod expr;
+mod path;
+mod sign;
+mod statement;
+
+pub use expr::{Call, Compare, Expr, ExprKind, Exprs, MapPart, MapParts, Term, Terms};
+pub use path::{Names, Path, PathKey, PathKeys};
+pub use sign::Sign;
+pub use statement::{Condition, Statement};
