@@ -4,6 +4,7 @@ use crate::path::Path;
 use crate::sign::Sign;
 use item_list::ItemList;
 use pdata_value::{Text, Value};
+use sqlite_items::Boxed;
 
 pub type Exprs = ItemList<Expr>;
 
@@ -38,7 +39,7 @@ pub enum ExprKind {
     /// Terms with `Sign::Times` or `Sign::Over`; the first has `Sign::Times`.
     Product(Terms),
     Compare(Compare),
-    Not(Box<Expr>),
+    Not(Boxed<Expr>),
     And(Exprs),
     Or(Exprs),
 }
@@ -73,6 +74,6 @@ pub struct Term {
 #[derive(Drop)]
 pub struct Compare {
     pub sign: Sign,
-    pub left: Box<Expr>,
-    pub right: Box<Expr>,
+    pub left: Boxed<Expr>,
+    pub right: Boxed<Expr>,
 }
