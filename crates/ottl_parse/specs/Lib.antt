@@ -1,0 +1,3 @@
+-- How statements and conditions are read.
+pub mod Place
+pub mod Reading

@@ -1,7 +1,9 @@
 //! Statements and conditions of OTTL: parsed form, parser, and printing.
 #![tactic(auto)]
 
+mod cursor;
 mod expr;
+mod literal;
 mod path;
 mod sign;
 mod statement;
