@@ -137,12 +137,13 @@ cut-token : (whole front slice behind : List ℕ) (t : Token) → IsUtf8 whole �
 cut-token whole front slice behind t utf8 is ends begins stops =
     let before : whole ≡ front ++ ends.first ∷ (ends.others ++ behind) = is ∙ ap (λ xs. front ++ (xs ++ behind)) ends.begins in
     let after : whole ≡ (front ++ ends.front) ++ ends.last ∷ behind =
-        is ∙ ap (λ xs. front ++ (xs ++ behind)) ends.ends ∙ ap (λ xs. front ++ xs) (append_assoc ends.front (ends.last ∷ []) behind)
-        ∙ sym (append_assoc front ends.front (ends.last ∷ behind)) in
+    is ∙ ap (λ xs. front ++ (xs ++ behind)) ends.ends ∙ ap (λ xs. front ++ xs) (append_assoc ends.front (ends.last ∷ []) behind)
+    ∙ sym (append_assoc front ends.front (ends.last ∷ behind)) in
     let place : length (front ++ ends.front) + 1 ≡ t.end =
-        omega (arith, stops, ap length ends.ends, length-append ends.front (ends.last ∷ []), length-append front ends.front) in
-    (subst (IsCharBoundary whole) (sym begins) (cut-before whole front ends.first (ends.others ++ behind) before ends.first_ascii),
-    subst (IsCharBoundary whole) place (cut-behind whole (front ++ ends.front) ends.last behind utf8 after ends.last_ascii))
+    omega (arith, stops, ap length ends.ends, length-append ends.front (ends.last ∷ []), length-append front ends.front) in (
+      subst (IsCharBoundary whole) (sym begins) (cut-before whole front ends.first (ends.others ++ behind) before ends.first_ascii),
+      subst (IsCharBoundary whole) place (cut-behind whole (front ++ ends.front) ends.last behind utf8 after ends.last_ascii),
+    )
 
 cuts : (whole : List ℕ) → IsUtf8 whole → (front text : List ℕ) (at : ℕ) (ts : List Token) (place : ℕ) (rest : List ℕ) → whole ≡ front ++ text → at ≡ length front
     → AreTokens at text ts place rest → All (IsCut whole) ts
@@ -154,7 +155,7 @@ cuts whole utf8 front text at (t ∷ ts) place rest is at_is are =
     let slice = longest.slice in
     let before = front ++ blanks.blanks in
     let whole_is : whole ≡ before ++ (slice ++ longest.behind) =
-        is ∙ ap (λ xs. front ++ xs) (blanks.whole ∙ ap (λ xs. blanks.blanks ++ xs) longest.whole) ∙ sym (append_assoc front blanks.blanks (slice ++ longest.behind)) in
+    is ∙ ap (λ xs. front ++ xs) (blanks.whole ∙ ap (λ xs. blanks.blanks ++ xs) longest.whole) ∙ sym (append_assoc front blanks.blanks (slice ++ longest.behind)) in
     let begins : t.begin ≡ length before = omega (arith, blanks.placed, at_is, length-append front blanks.blanks) in
     let stops : t.end ≡ length before + length slice = omega (arith, begins, longest.sized, are.2) in
     let left : drop (t.end - t.begin) here ≡ longest.behind = ap (drop (t.end - t.begin)) longest.whole ∙ drop_at slice longest.behind (t.end - t.begin) longest.sized in

@@ -5,7 +5,6 @@ ghost use Rattle.ottl_lex.specs.Tokens.{slice_of, IsCut};
 ghost use Rattle.ottl_lex.specs.Codes.{code_of, code_in, word_code, sign_code, pair_code};
 
 use crate::codes;
-
 use item_list::ItemList;
 
 #[derive(Clone, Copy, Debug, PartialEq, Eq)]

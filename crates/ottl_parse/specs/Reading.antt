@@ -147,8 +147,8 @@ call_behind inside at name r =
     within inside inside.expr 41 r >>= λ p. Ok (roll-Call (record { at = at; name = name; arguments = p.0 }), p.1)
 
 -- a part of a map: a text, a colon and an expression
-unfoldable pub part : Inside → Rest → Reads MapPart
-part inside r = text r >>= λ k. this 58 k.1 >>= inside.expr >>= λ v. Ok (record { key = k.0; value = v.0 }, v.1)
+unfoldable pub part : (Rest → Reads Expr) → Rest → Reads MapPart
+part one r = text r >>= λ k. this 58 k.1 >>= one >>= λ v. Ok (record { key = k.0; value = v.0 }, v.1)
 
 -- an expression in parentheses, which leave no trace
 abbrev pub group : Inside → Rest → Reads Expr
@@ -161,24 +161,18 @@ abbrev pub make : {X : Type 0} → Rest → (X → ExprKind) → Reads X → Rea
 make r kind read = read >>= λ p. Ok (record { at = place r; kind = kind p.0 }, p.1)
 
 -- what a name begins: a call where a parenthesis follows it, else a path or an enum
-abbrev pub named : Inside → (List ℕ → Rest → Reads ExprKind) → Rest → Reads Expr
-named inside other r =
-    make r (λ k. k) (cond (head (past r) == 40)
-    (call_behind inside (place r) (slice r) (past r) >>= λ c. Ok (kinds.Call c.0, c.1)) (other (slice r) (past r)))
-
-abbrev pub path_or_call : Inside → Rest → Reads Expr
-path_or_call inside r = named inside (λ name q. path_behind inside name q >>= λ p. Ok (kinds.Path p.0, p.1)) r
-
-abbrev pub enum_or_call : Inside → Rest → Reads Expr
-enum_or_call inside r = named inside (λ name q. Ok (kinds.Enum name, q)) r
+unfoldable pub named : Inside → Rest → Reads ExprKind
+named inside r =
+    cond (head (past r) == 40) (call_behind inside (place r) (slice r) (past r) >>= λ c. Ok (kinds.Call c.0, c.1))
+    (cond (head r == lower) (path_behind inside (slice r) (past r) >>= λ p. Ok (kinds.Path p.0, p.1))
+    (Ok (kinds.Enum (slice r), past r)))
 
 unfoldable pub primary : Inside → Rest → Reads Expr
 primary inside r =
-    cond (head r == 91) (make r kinds.List (within inside inside.expr 93 r))
-    (cond (head r == 123) (make r kinds.Map (within inside (part inside) 125 r))
-    (cond (head r == 40) (group inside r)
-    (cond (head r == lower) (path_or_call inside r)
-    (cond (head r == upper) (enum_or_call inside r) (make r kinds.Literal (literal r))))))
+    cond (head r == 40) (group inside r)
+    (cond (head r == 91) (make r kinds.List (within inside inside.expr 93 r))
+    (cond (head r == 123) (make r kinds.Map (within inside (part inside.expr) 125 r))
+    (cond (head r == lower || head r == upper) (make r (λ k. k) (named inside r)) (make r kinds.Literal (literal r)))))
 
 -- an operand; or it and further pieces, where one follows it
 abbrev pub level : {X : Type 0} → (Expr → X) → (List X → ExprKind) → (ℕ → Bool) → (Rest → Reads Expr) → (Rest → Reads X) → Rest → Reads Expr

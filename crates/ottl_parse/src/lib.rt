@@ -5,6 +5,7 @@ mod cursor;
 mod expr;
 mod literal;
 mod path;
+mod reader;
 mod sign;
 mod statement;
 
