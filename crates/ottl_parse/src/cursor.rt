@@ -6,6 +6,7 @@ ghost use Rattle.ottl_lex.specs.Tokens.{IsWithin, IsCut};
 ghost use Rattle.ottl_lex.specs.Quoted.{fault};
 ghost use Rattle.ottl_parse.specs.Place.{head_of, head, place, slice, past};
 ghost use Rattle.ottl_parse.specs.Reading.{this, inside_of};
+ghost use Rattle.ottl_parse.specs.Parsing.{at_end};
 
 use ottl_lex::{MAX_TEXT, SyntaxFault, SyntaxKind, Token, codes};
 use std::marker::Model;
@@ -130,6 +131,16 @@ impl<'a> Cursor<'a> {
         }
         self.step();
         Ok(room - 1)
+    }
+
+    /// Nothing is left, or a fault.
+    pub(crate) fn end(&self) -> Result<(), SyntaxFault>
+        ensures { result ≡ at_end self.now }
+    {
+        match self.tokens {
+            [] => Ok(()),
+            [_, ..] => Err(self.fault(SyntaxKind::Unexpected)),
+        }
     }
 
     /// A fault at the next token.

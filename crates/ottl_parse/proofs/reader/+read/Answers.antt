@@ -1,16 +1,16 @@
-use Rattle.std.proofs.Common.{rules, ◌≡◌, ◌∙◌, ◌<◌, ◌≤◌, ◌==◌, ℕ, [], ◌∷◌, ◌++◌, true, false, length, List, Ok, Err, refl, sym, ap, arith}
+use Rattle.std.proofs.Common.{rules, ◌≡◌, ◌∙◌, ◌<◌, ◌==◌, ℕ, [], ◌∷◌, ◌++◌, true, false, List, Ok, sym, ap, arith}
 use Rattle.std.proofs.lemmas.Bool.Decides.{nat_tests}
 use Rattle.std.proofs.lemmas.Result.{err_from_is_err_and}
 use Rattle.ottl_lex.specs.Codes.{and_word, or_word, not_word}
 use Rattle.ottl_lex.specs.Quoted.{◌>>=◌}
 use Rattle.ottl_lex.specs.declared.fault.SyntaxStop.TheVariants.{Fault}
-use Rattle.ottl_parse.specs.Place.{Rest, head, place, past}
-use Rattle.ottl_parse.specs.Reading.{Inside, inside_of, this, part, signed_term, is_product_sign, product_sign, is_sum_sign, sum_sign, primary, product, sum, negation, conjunction, disjunction}
+use Rattle.ottl_parse.specs.Place.{Rest, head, past}
+use Rattle.ottl_parse.specs.Reading.{inside_of, part, signed_term, is_product_sign, product_sign, is_sum_sign, sum_sign, primary, product, sum, negation, conjunction, disjunction}
 use Rattle.ottl_parse.specs.declared.expr.Expr.{Expr}
 use Rattle.ottl_parse.specs.declared.expr.Term.{Term}
 use Rattle.ottl_parse.specs.declared.expr.ExprKind.TheVariants as kinds
 use Rattle.ottl_parse.specs.declared.sign.Sign.TheVariants.{Plus, Times}
-use Rattle.ottl_parse.proofs.Turns.{Fails, Fails-bind, Fails-also, PiecesSoFar-goes, PiecesSoFar-end, PiecesSoFar-fail, level-joined, level-more-fails, within-more-fails, within-close-fails, within-done, inside_with, inside-more, negation-of, group-done, group-fails, is_code, other_code}
+use Rattle.ottl_parse.proofs.Turns.{Fails-bind, PiecesSoFar-goes, PiecesSoFar-end, PiecesSoFar-fail, level-joined, level-more-fails, within-more-fails, within-close-fails, within-done, inside_with, inside-more, negation-of, group-done, group-fails, is_code, other_code}
 use Rattle.ottl_parse.proofs.reader.+read.Goals as goal
 
 pub and_of-returns-in_err-not_of-clause-gives : goal.and_of-returns-in_err-not_of-clause-gives

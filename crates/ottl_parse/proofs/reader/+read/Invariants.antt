@@ -1,4 +1,4 @@
-use Rattle.std.proofs.Common.{◌≤◌, ◌+◌, ◌*◌, ◌==◌, ℕ, length}
+use Rattle.std.proofs.Common.{◌≤◌, ◌+◌, ◌*◌, ◌==◌, length}
 use Rattle.ottl_lex.specs.Codes.{and_word, or_word}
 use Rattle.ottl_parse.specs.Place.{past}
 use Rattle.ottl_parse.specs.Reading.{inside_of, part, signed_term, is_product_sign, product_sign, is_sum_sign, sum_sign, primary, product, negation, conjunction, disjunction}

@@ -1,8 +1,8 @@
-use Rattle.std.proofs.Common.{◌≡◌, ◌∙◌, ℕ, ◌==◌, [], ◌∷◌, length, arith, sym}
+use Rattle.std.proofs.Common.{◌≡◌, ◌∙◌, ◌==◌, [], length, arith, sym}
 use Rattle.std.proofs.lemmas.Result.{err_from_is_err_and}
 use Rattle.ottl_parse.specs.Place.{head}
 use Rattle.ottl_parse.specs.Reading.{inside_of, pieces, key}
-use Rattle.ottl_parse.proofs.Turns.{Fails, PiecesSoFar-goes, PiecesSoFar-end, PiecesSoFar-fail, with_front-nil, is_code, other_code}
+use Rattle.ottl_parse.proofs.Turns.{PiecesSoFar-goes, PiecesSoFar-end, PiecesSoFar-fail, with_front-nil, is_code, other_code}
 use Rattle.ottl_parse.proofs.reader.keys_of.Goals as goal
 
 pub returns-in_err-key_of-clause-gives : goal.returns-in_err-key_of-clause-gives

@@ -1,4 +1,4 @@
-use Rattle.std.proofs.Common.{ℕ, ◌≤◌, ◌==◌, [], ◌∷◌, length}
+use Rattle.std.proofs.Common.{◌≤◌, ◌==◌, [], length}
 use Rattle.ottl_parse.specs.Reading.{inside_of, key}
 use Rattle.ottl_parse.proofs.Turns.{PiecesSoFar}
 use Rattle.ottl_parse.proofs.reader.keys_of.Given as goal
