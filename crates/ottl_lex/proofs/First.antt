@@ -89,10 +89,10 @@ all-each : (p : ℕ → Bool) (xs : List ℕ) → all_pass p xs ≡ true → Eac
 all-each p [] is = tt
 all-each p (x ∷ xs) is = (and_left (p x) (all_pass p xs) is, all-each p xs (and_right (p x) (all_pass p xs) is))
 
-keyword-first : (b : ℕ) (front : List ℕ) → is_keyword (b ∷ front) ≡ true → is_ascii_lowercase b ≡ true
+pub keyword-first : (b : ℕ) (front : List ℕ) → is_keyword (b ∷ front) ≡ true → is_ascii_lowercase b ≡ true
 keyword-first b front is = and_left (is_ascii_lowercase b) (all_pass in_lower front) (name_of-passes lower_name keywords (b ∷ front) refl is)
 
-keyword-more : (b : ℕ) (front : List ℕ) → is_keyword (b ∷ front) ≡ true → Each in_lower front
+pub keyword-more : (b : ℕ) (front : List ℕ) → is_keyword (b ∷ front) ≡ true → Each in_lower front
 keyword-more b front is = all-each in_lower front (and_right (is_ascii_lowercase b) (all_pass in_lower front) (name_of-passes lower_name keywords (b ∷ front) refl is))
 
 pub lower-in_lower : (b : ℕ) → is_ascii_lowercase b ≡ true → in_lower b ≡ true

@@ -11,3 +11,4 @@ pub mod First
 pub mod Stands
 pub mod FaultLemmas
 pub mod Longest
+pub mod Cuts

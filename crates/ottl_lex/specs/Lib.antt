@@ -2,6 +2,7 @@
 pub mod Tokens
 pub mod Quoted
 pub mod Numbers
+pub mod Codes
 pub mod Names
 -- The token table, apart from how tokens are read.
 pub mod Table

@@ -2,7 +2,7 @@
 use Rattle.std.specs.Prelude.{length, ℕ, zero, suc, ◌+◌, ◌-◌, ◌%◌, ◌<◌, ◌≤◌, Bool, false, cond, ◌==◌, ◌&&◌, ◌||◌, nat_lt, List, [], ◌∷◌, take, drop, Option, Some, None, Result, Ok, Err, codes}
 use Rattle.std.specs.Char.{is_ascii_digit, is_ascii_hexdigit, is_ascii_lowercase, is_ascii_uppercase}
 use Rattle.std.specs.List.{prefix_len}
-use Rattle.std.specs.Str.{bytes_eq}
+use Rattle.std.specs.Str.{bytes_eq, IsCharBoundary}
 use Rattle.ottl_lex.specs.Quoted.{fault, ◌>>=◌, with_front, closing, contents}
 use Rattle.ottl_lex.specs.declared.fault.SyntaxFault.{SyntaxFault}
 use Rattle.ottl_lex.specs.declared.fault.SyntaxKind.TheVariants.{BadChar, OpenText, Fraction, BadNumber}
@@ -135,3 +135,7 @@ slice_of text token = take (token.end - token.begin) (drop token.begin text)
 -- the token's bytes are some of the text's
 abbrev pub IsWithin : List ℕ → Token → Type 0
 IsWithin text token = (token.begin < token.end) × (token.end ≤ length text)
+
+-- the token begins and ends between characters
+abbrev pub IsCut : List ℕ → Token → Type 0
+IsCut text token = IsCharBoundary text token.begin × IsCharBoundary text token.end

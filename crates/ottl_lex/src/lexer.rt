@@ -4,7 +4,7 @@ ghost use Rattle.std.specs.Prelude.{◌≡◌, ◌+◌, ◌-◌, ◌<◌, ◌≤
 ghost use Rattle.contract_words.specs.Gives.{Gives};
 ghost use Rattle.ottl_lex.specs.Names.{fault_of};
 ghost use Rattle.ottl_lex.specs.Quoted.{closing};
-ghost use Rattle.ottl_lex.specs.Tokens.{is_blank, lower_at, is_keyword, number_at, hex_at, hex_first, digits_before, digit_first, quoted_at, sign_at, is_sign, before_equals, equals_first, token, token_at, tokens_of, IsWithin};
+ghost use Rattle.ottl_lex.specs.Tokens.{is_blank, lower_at, is_keyword, number_at, hex_at, hex_first, digits_before, digit_first, quoted_at, sign_at, is_sign, before_equals, equals_first, token, token_at, tokens_of, IsWithin, IsCut};
 
 use crate::fault::{SyntaxFault, SyntaxKind, SyntaxStop, stop};
 use crate::lengths::{digits_len, hex_len, lower_len, upper_len};
@@ -21,6 +21,7 @@ pub fn lex(alloc: Global, text: &str) -> Result<Tokens, SyntaxStop>
     requires { length text.now ≤ MAX_TEXT }
     ensures value { Gives (λ tokens. tokens) fault_of result (tokens_of text.now) }
     ensures within { IfOk result (All (IsWithin text.now)) }
+    ensures cut { IfOk result (All (IsCut text.now)) }
 {
     let mut tokens = Tokens::new(alloc);
     let mut at: u32 = 0;

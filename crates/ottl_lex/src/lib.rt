@@ -1,6 +1,7 @@
 //! Tokens of statements and conditions.
 #![tactic(auto)]
 
+pub mod codes;
 mod fault;
 mod laws;
 mod lengths;

@@ -1,6 +1,8 @@
-use Rattle.std.proofs.Common.{◌∙◌, sym, arith}
+use Rattle.std.proofs.Common.{◌≡◌, ◌∙◌, [], Ok, sym, ap, arith}
+use Rattle.std.proofs.lemmas.List.{append-nil, nil_from_length}
 use Rattle.std.proofs.lemmas.List.Elements.{All-push}
 use Rattle.ottl_lex.specs.Tokens.{tokens_of, IsWithin}
+use Rattle.ottl_lex.proofs.Cuts.{tokens-cut}
 use Rattle.ottl_lex.proofs.Loop.{tokens-step}
 use Rattle.ottl_lex.proofs.lexer.lex.Goals as goal
 
@@ -17,3 +19,10 @@ tokens-preserved c =
       within = rw pushed (All-push (IsWithin c.args.text.now) here.tokens token here.invariant.within (omega (arith, c.in_ok-token.ensures.within.0, c.in_ok-token.ensures.within.1), omega (arith, c.in_ok-token.ensures.within.2, here.invariant.room)));
       room = omega (arith, c.split_at.ensures.back_len, c.in_ok-token.ensures.within.1, c.in_ok-token.ensures.within.2);
     }
+
+pub returns-clause-cut : goal.returns-clause-cut
+returns-clause-cut c =
+    let here = c.tokens in
+    let none : here.rest.now ≡ [] = nil_from_length here.rest.now (omega (arith, c.in_default.len_below)) in
+    let all = rw none at here.invariant.reads in
+    tokens-cut c.args.text.now here.tokens c.utf8.text (sym all ∙ ap Ok (append-nil here.tokens))

@@ -1,0 +1,5 @@
+-- How statements and conditions are parsed.
+pub mod Place
+pub mod Reading
+pub mod Checks
+pub mod Parsing

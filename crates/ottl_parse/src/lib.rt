@@ -1,0 +1,18 @@
+//! Statements and conditions of OTTL: parsed form, parser, and printing.
+#![tactic(auto)]
+
+mod check;
+mod cursor;
+mod expr;
+mod literal;
+mod parse;
+mod path;
+mod reader;
+mod sign;
+mod statement;
+
+pub use expr::{Call, Compare, Expr, ExprKind, Exprs, MapPart, MapParts, Term, Terms};
+pub use parse::{parse_condition, parse_statement};
+pub use path::{Names, Path, PathKey, PathKeys};
+pub use sign::Sign;
+pub use statement::{Condition, Statement};
