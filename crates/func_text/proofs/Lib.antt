@@ -1,0 +1,5 @@
+mod Pieces
+mod Spelled
+mod Joins
+mod Bridge
+pub mod Crossing
