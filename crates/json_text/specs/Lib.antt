@@ -4,5 +4,7 @@ pub mod Reading
 pub mod Writing
 pub mod Grammar
 pub mod Placed
+pub mod Kinds
+pub mod Members
 -- Inside this crate: what stands between two places.
 pub mod Spelled
