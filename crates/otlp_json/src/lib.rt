@@ -1,14 +1,15 @@
 //! OTLP logs payloads in JSON: the payload that a line is, and the one written form of a payload.
 #![tactic(auto)]
 
+mod counts;
 mod error;
-mod members;
+mod fields;
+mod number;
 mod reading;
-mod writing;
+mod record;
+mod resource;
+mod scope;
+mod value;
 
 pub use error::{PayloadFault, PayloadKind, PayloadStop};
 pub use reading::read_payload;
-pub use writing::{push_line, write_line};
-
-#[cfg(test)]
-mod tests;
