@@ -1,3 +1,5 @@
 pub mod Decimals
 pub mod Levels
 pub mod Doubles
+pub mod ValueJson
+pub mod Words

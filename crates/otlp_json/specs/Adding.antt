@@ -1,7 +1,7 @@
 -- Members as they are added to an object that is written.
 use Rattle.std.specs.Prelude.{◌≡◌, ℕ, Bool, true, false, codes, List, [], ◌∷◌, ◌++◌, map}
 use Rattle.json_text.specs.Kinds.{Member}
-use Rattle.json_text.specs.Writing.{listed_from, member_text, text_of}
+use Rattle.json_text.specs.Writing.{quoted_text, listed_from, member_text, text_of}
 use Rattle.json_text.specs.declared.json.Json.{Json}
 
 -- the comma behind other members
@@ -31,3 +31,7 @@ pub record Adds (members : List Member) (some : Bool) (old : List ℕ) (now : Bo
 -- elements with commas between them
 abbrev pub listed : {X : Type 0} → (X → Json) → List X → List ℕ
 listed json xs = listed_from 0 (map (λ x. text_of (json x)) xs)
+
+-- what stands before the value of a pair
+abbrev pub pair_front : List ℕ → List ℕ
+pair_front key = codes "{\"key\":" ++ (quoted_text key ++ codes ",\"value\":")

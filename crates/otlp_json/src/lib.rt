@@ -10,6 +10,8 @@ mod record;
 mod resource;
 mod scope;
 mod value;
+mod writing;
 
 pub use error::{PayloadFault, PayloadKind, PayloadStop};
 pub use reading::read_payload;
+pub use writing::{push_line, write_line};
