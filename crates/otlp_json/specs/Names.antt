@@ -18,5 +18,5 @@ kind_name BadBase64 = codes "BadBase64"
 kind_name TooMany = codes "TooMany"
 
 -- a fault, as `KIND at PLACE`
-abbrev pub fault_name : PayloadFault → List ℕ
+unfoldable pub fault_name : PayloadFault → List ℕ
 fault_name fault = kind_name fault.kind ++ codes " at " ++ decimal fault.at

@@ -71,6 +71,7 @@ impl fmt::Display for PayloadFault {
 
     ghost output = { λ fault. Some (fault_name fault) };
 
+    #[tactic(auto, unfolding(crate::specs::Names::fault_name))]
     fn fmt<W: fmt::Write>(&self, f: &mut fmt::Formatter<W>) -> fmt::Result {
         let PayloadFault { kind, at } = *self;
         write!(f, "{kind} at {at}")

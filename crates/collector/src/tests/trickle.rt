@@ -81,7 +81,7 @@ fn a_disk_that_takes_one_byte_a_call_gets_the_same_bytes(rt: HostRuntime) -> Res
     );
     assert_eq!(rt;
         notes.inner.bytes(),
-        b"payload 2 refused NotBuilt\n".as_slice()
+        b"payload 2 refused NotObject at 0\n".as_slice()
     );
     Ok(())
 }
