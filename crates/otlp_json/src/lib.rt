@@ -15,3 +15,6 @@ mod writing;
 pub use error::{PayloadFault, PayloadKind, PayloadStop};
 pub use reading::read_payload;
 pub use writing::{push_line, write_line};
+
+#[cfg(test)]
+mod tests;
