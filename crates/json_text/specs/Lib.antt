@@ -4,6 +4,8 @@ pub mod Reading
 pub mod Writing
 pub mod Grammar
 pub mod Placed
+pub mod Kinds
+pub mod Members
 -- Inside this crate: what stands between two places, and what ends a run of plain bytes.
 pub mod Spelled
 pub mod Marks

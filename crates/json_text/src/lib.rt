@@ -5,7 +5,9 @@ mod cursor;
 mod error;
 mod escape;
 mod json;
+mod kinds;
 mod laws;
+mod members;
 mod number;
 mod reader;
 mod scan;
@@ -14,7 +16,9 @@ mod writer;
 
 pub use error::JsonFault;
 pub use json::{Items, Json, JsonKind, Members};
+pub use kinds::Member;
 pub use laws::{reading_is_the_grammar, written_is_read};
+pub use members::{has_standing, stands, stands_under};
 pub use reader::read;
 pub use writer::{push_comma_before, push_json, push_text, write};
 

@@ -1,5 +1,5 @@
-pub mod Layers
-pub mod Lists
-pub mod Values
-pub mod Pushes
-pub mod PlainBytes
+pub mod Decimals
+pub mod Levels
+pub mod Doubles
+pub mod ValueJson
+pub mod Words

@@ -1,9 +1,15 @@
 //! OTLP logs payloads in JSON: the payload that a line is, and the one written form of a payload.
 #![tactic(auto)]
 
+mod counts;
 mod error;
-mod members;
+mod fields;
+mod number;
 mod reading;
+mod record;
+mod resource;
+mod scope;
+mod value;
 mod writing;
 
 pub use error::{PayloadFault, PayloadKind, PayloadStop};

@@ -1,167 +1,273 @@
 //! What given lines are read as, and how they are written.
 
-use crate::{PayloadFault, PayloadKind, PayloadStop, push_line, read_payload, write_line};
+use crate::{PayloadStop, push_line, read_payload, write_line};
 use std::alloc::{AllocError, Global};
 use std::process::Abort;
 use std::test::Fail;
 
-const BEFORE_RECORD: &[u8] = br#"{"resourceLogs":[{"scopeLogs":[{"logRecords":["#;
+const BEFORE_RECORD: &str = r#"{"resourceLogs":[{"resource":{},"scopeLogs":[{"scope":{},"logRecords":["#;
 
-const BEHIND_RECORD: &[u8] = b"]}]}]}";
+const BEHIND_RECORD: &str = "]}]}]}";
 
-const NOT_BUILT: PayloadFault = PayloadFault {
-    kind: PayloadKind::NotBuilt,
-};
-
-/// Reads a line and writes its payload.
-fn rewritten(rt: &impl Abort, alloc: Global, line: &[u8]) -> Result<Vec<u8>, PayloadStop> {
-    assert!(rt; line.len() < 1000);
-    let batch = read_payload(alloc, line)?;
-    Ok(write_line(alloc, &batch)?)
-}
-
-/// Whether a line is refused for its form.
-fn is_refused(rt: &impl Abort, alloc: Global, line: &[u8]) -> bool {
-    match rewritten(rt, alloc, line) {
-        Ok(_) => false,
-        Err(stop) => stop == PayloadStop::Fault(NOT_BUILT),
+/// The written form of a line, or its fault.
+fn answer(rt: &impl Abort, alloc: Global, line: &[u8]) -> Result<Vec<u8>, AllocError> {
+    assert!(rt; line.len() < 10_000);
+    match read_payload(alloc, line) {
+        Ok(batch) => write_line(alloc, &batch),
+        Err(PayloadStop::Fault(fault)) => {
+            let name = format!(in alloc; "{fault}")?;
+            Ok(name.into_bytes())
+        }
+        Err(PayloadStop::NoMemory) => Err(AllocError),
     }
 }
 
-/// A line with so many bytes that open, seven of which aren't in texts.
-fn opening(alloc: Global, count: usize) -> Result<Vec<u8>, AllocError> {
-    let mut line = Vec::new(alloc);
-    line.extend_from_slice(br#"{"resourceLogs":[{"resource":{"attributes":[{"key":""#)?;
-    for _ in 7..count - count / 2 {
-        line.push(b'[')?;
-    }
-    line.extend_from_slice(br#"","value":{"stringValue":""#)?;
-    for _ in 0..count / 2 {
-        line.push(b'{')?;
-    }
-    line.extend_from_slice(br#""}}]}}]}"#)?;
-    Ok(line)
+/// A payload of one record, which begins at place 71.
+fn line_of(alloc: Global, record: &str) -> Result<String, AllocError> {
+    format!(in alloc; "{BEFORE_RECORD}{record}{BEHIND_RECORD}")
 }
 
 #[test]
-fn payloads_are_written_in_their_one_form(rt: HostRuntime) -> Result<(), Fail> {
-    let table: [(&str, &str); 8] = [
+fn records_are_written_in_their_one_form(rt: HostRuntime) -> Result<(), Fail> {
+    let table: [(&str, &str); 23] = [
+        // Every member, and each left out where it is as good as absent.
         (
-            r#"{"resourceLogs":[{"resource":{},"scopeLogs":[{"scope":{},"logRecords":[{"body":{"stringValue":"hi"}}]}]}]}"#,
-            r#"{"resourceLogs":[{"resource":{},"scopeLogs":[{"scope":{},"logRecords":[{"body":{"stringValue":"hi"}}]}]}]}"#,
-        ),
-        ("{}", r#"{"resourceLogs":[]}"#),
-        (
-            " { \"resourceLogs\" : [ { } ] }\r\n",
-            r#"{"resourceLogs":[{"resource":{}}]}"#,
+            r#"{"timeUnixNano":"1544712660300000000","observedTimeUnixNano":18446744073709551615,"severityNumber":9,"severityText":"INFO","body":{"stringValue":"hi"},"attributes":[{"key":"k","value":{"boolValue":true}}],"droppedAttributesCount":"3","flags":4294967295,"traceId":"5B8EFFF798038103D269B633813FC60C","spanId":"eee19B7EC3c1b174"}"#,
+            r#"{"timeUnixNano":"1544712660300000000","observedTimeUnixNano":"18446744073709551615","severityNumber":9,"severityText":"INFO","body":{"stringValue":"hi"},"attributes":[{"key":"k","value":{"boolValue":true}}],"droppedAttributesCount":3,"flags":4294967295,"traceId":"5b8efff798038103d269b633813fc60c","spanId":"eee19b7ec3c1b174"}"#,
         ),
         (
-            r#"{"resourceLogs":[{"scopeLogs":[{}]}]}"#,
-            r#"{"resourceLogs":[{"resource":{},"scopeLogs":[{"scope":{}}]}]}"#,
+            r#"{"spanId":"","traceId":"00000000000000000000000000000000","flags":"0","droppedAttributesCount":0,"attributes":[],"body":null,"severityText":"","severityNumber":0,"observedTimeUnixNano":"-0","timeUnixNano":0}"#,
+            r#"{}"#,
         ),
         (
-            r#"{"resourceLogs":[{"scopeLogs":[{"logRecords":[{}]}]}]}"#,
-            r#"{"resourceLogs":[{"resource":{},"scopeLogs":[{"scope":{},"logRecords":[{}]}]}]}"#,
+            r#"{"spanId":"0000000000000001","flags":1,"body":{},"severityNumber":-2147483648,"timeUnixNano":1}"#,
+            r#"{"timeUnixNano":"1","severityNumber":-2147483648,"flags":1,"spanId":"0000000000000001"}"#,
         ),
-        // Empty lists.
+        // Members that are unknown, stand twice, are null or have an escape in their key.
         (
-            r#"{"resourceLogs":[{"resource":{"attributes":[]},"scopeLogs":[{"scope":{"attributes":[]},"logRecords":[]},{"logRecords":[{"attributes":[]}]}]},{"scopeLogs":[]}]}"#,
-            r#"{"resourceLogs":[{"resource":{},"scopeLogs":[{"scope":{}},{"scope":{},"logRecords":[{}]}]},{"resource":{}}]}"#,
+            r#"{"x":{"y":[1,{}]},"flags":[1],"flags":2}"#,
+            r#"{"flags":2}"#,
         ),
-        // Members in another order, and attributes at each place.
         (
-            r#"{"resourceLogs":[{"scopeLogs":[{"logRecords":[{"attributes":[{"value":{"stringValue":"c"},"key":"r"},{"key":"r","value":{"stringValue":""}}],"body":{"stringValue":"[hi]"}}],"scope":{"attributes":[{"value":{"stringValue":"b"},"key":""}]}}],"resource":{"attributes":[{"value":{"stringValue":"a"},"key":"q"}]}}]}"#,
-            r#"{"resourceLogs":[{"resource":{"attributes":[{"key":"q","value":{"stringValue":"a"}}]},"scopeLogs":[{"scope":{"attributes":[{"key":"","value":{"stringValue":"b"}}]},"logRecords":[{"body":{"stringValue":"[hi]"},"attributes":[{"key":"r","value":{"stringValue":"c"}},{"key":"r","value":{"stringValue":""}}]}]}]}]}"#,
+            r#"{"flags":2,"flags":null}"#,
+            r#"{}"#,
         ),
-        // A body that is the empty text stands, and the last byte of ASCII too.
         (
-            "{\"resourceLogs\":[{\"scopeLogs\":[{\"logRecords\":[{\"body\":{\"stringValue\":\"\"}},{\"body\":{\"stringValue\":\"\x7f\"}}]}]}]}",
-            "{\"resourceLogs\":[{\"resource\":{},\"scopeLogs\":[{\"scope\":{},\"logRecords\":[{\"body\":{\"stringValue\":\"\"}},{\"body\":{\"stringValue\":\"\x7f\"}}]}]}]}",
+            r#"{"\u0066lags":2,"severityText":"\u000a\u0000\/\u00e9"}"#,
+            r#"{"severityText":"\n\u0000/é","flags":2}"#,
         ),
+        // Values, of whose members the last counts.
+        (
+            r#"{"body":{"stringValue":"a","intValue":1}}"#,
+            r#"{"body":{"intValue":"1"}}"#,
+        ),
+        (
+            r#"{"body":{"intValue":"1","stringValue":null}}"#,
+            r#"{"body":{"intValue":"1"}}"#,
+        ),
+        (
+            r#"{"body":{"intValue":[],"stringValue":"a"}}"#,
+            r#"{"body":{"stringValue":"a"}}"#,
+        ),
+        (
+            r#"{"body":{"intValue":-9223372036854775808}}"#,
+            r#"{"body":{"intValue":"-9223372036854775808"}}"#,
+        ),
+        (
+            r#"{"body":{"intValue":9223372036854775807}}"#,
+            r#"{"body":{"intValue":"9223372036854775807"}}"#,
+        ),
+        (
+            r#"{"body":{"intValue":"-0"}}"#,
+            r#"{"body":{"intValue":"0"}}"#,
+        ),
+        (
+            r#"{"body":{"boolValue":false}}"#,
+            r#"{"body":{"boolValue":false}}"#,
+        ),
+        (
+            r#"{"body":{"stringValue":""}}"#,
+            r#"{"body":{"stringValue":""}}"#,
+        ),
+        (
+            r#"{"body":{"doubleValue":"1e3"}}"#,
+            r#"{"body":{"doubleValue":1e3}}"#,
+        ),
+        (
+            r#"{"body":{"doubleValue":0.10}}"#,
+            r#"{"body":{"doubleValue":0.10}}"#,
+        ),
+        (
+            r#"{"body":{"doubleValue":"-Infinity"}}"#,
+            r#"{"body":{"doubleValue":"-Infinity"}}"#,
+        ),
+        (
+            r#"{"body":{"bytesValue":"aGk="}}"#,
+            r#"{"body":{"bytesValue":"aGk="}}"#,
+        ),
+        (
+            r#"{"body":{"bytesValue":""}}"#,
+            r#"{"body":{"bytesValue":""}}"#,
+        ),
+        (
+            r#"{"body":{"arrayValue":{}}}"#,
+            r#"{"body":{"arrayValue":{}}}"#,
+        ),
+        (
+            r#"{"body":{"arrayValue":{"values":[{},{"arrayValue":{"values":[]}}]}}}"#,
+            r#"{"body":{"arrayValue":{"values":[{},{"arrayValue":{}}]}}}"#,
+        ),
+        (
+            r#"{"body":{"kvlistValue":{"values":null}}}"#,
+            r#"{"body":{"kvlistValue":{}}}"#,
+        ),
+        (
+            r#"{"body":{"kvlistValue":{"values":[{},{"value":{"intValue":7},"key":"k"},{"key":"k","value":null}]}}}"#,
+            r#"{"body":{"kvlistValue":{"values":[{"key":"","value":{}},{"key":"k","value":{"intValue":"7"}},{"key":"k","value":{}}]}}}"#,
+        ),
+    ];
+    for (record, wanted) in table {
+        let line = line_of(rt.alloc(), record)?;
+        let wanted = line_of(rt.alloc(), wanted)?;
+        let written = answer(&rt, rt.alloc(), line.as_bytes())?;
+        assert_eq!(rt; written.as_slice(), wanted.as_bytes(), "{record}");
+        let again = answer(&rt, rt.alloc(), wanted.as_bytes())?;
+        assert_eq!(rt; again.as_slice(), wanted.as_bytes(), "{record} again");
+    }
+    Ok(())
+}
+
+#[test]
+fn records_are_refused_at_the_value(rt: HostRuntime) -> Result<(), Fail> {
+    let table: [(&str, &str); 31] = [
+        // Kinds.
+        (r#"null"#, "WrongKind at 71"),
+        (r#"{"body":{"boolValue":1}}"#, "WrongKind at 92"),
+        (r#"{"severityNumber":"9"}"#, "WrongKind at 89"),
+        (r#"{"timeUnixNano":true}"#, "WrongKind at 87"),
+        (r#"{"body":"hi"}"#, "WrongKind at 79"),
+        (r#"{"body":{"stringValue":7}}"#, "WrongKind at 94"),
+        (r#"{"body":{"doubleValue":true}}"#, "WrongKind at 94"),
+        (r#"{"attributes":{}}"#, "WrongKind at 85"),
+        (r#"{"attributes":[{"key":"k"},null]}"#, "WrongKind at 98"),
+        (r#"{"attributes":[{"key":1}]}"#, "WrongKind at 93"),
+        (r#"{"body":{"arrayValue":[]}}"#, "WrongKind at 93"),
+        (r#"{"body":{"kvlistValue":{"values":{}}}}"#, "WrongKind at 104"),
+        // Numbers.
+        (r#"{"body":{"intValue":9223372036854775808}}"#, "BadNumber at 91"),
+        (r#"{"body":{"intValue":"1.0"}}"#, "BadNumber at 91"),
+        (r#"{"body":{"intValue":1e3}}"#, "BadNumber at 91"),
+        (r#"{"body":{"intValue":" 1"}}"#, "BadNumber at 91"),
+        (r#"{"body":{"intValue":"01"}}"#, "BadNumber at 91"),
+        (r#"{"body":{"intValue":"+1"}}"#, "BadNumber at 91"),
+        (r#"{"body":{"intValue":""}}"#, "BadNumber at 91"),
+        (r#"{"body":{"doubleValue":"nan"}}"#, "BadNumber at 94"),
+        (r#"{"timeUnixNano":"18446744073709551616"}"#, "BadNumber at 87"),
+        (r#"{"timeUnixNano":-1}"#, "BadNumber at 87"),
+        (r#"{"severityNumber":2147483648}"#, "BadNumber at 89"),
+        (r#"{"flags":4294967296}"#, "BadNumber at 80"),
+        // Ids and bytes.
+        (r#"{"traceId":"5B8EFFF798038103D269B633813FC60"}"#, "BadId at 82"),
+        (r#"{"traceId":"eee19b7ec3c1b174"}"#, "BadId at 82"),
+        (r#"{"spanId":"eee19b7ec3c1b17g"}"#, "BadId at 81"),
+        (r#"{"body":{"bytesValue":"aGk"}}"#, "BadBase64 at 93"),
+        (r#"{"body":{"bytesValue":"aGl="}}"#, "BadBase64 at 93"),
+        (r#"{"body":{"bytesValue":"-_8="}}"#, "BadBase64 at 93"),
+        // The first in the order of the text.
+        (r#"{"flags":-1,"body":{"boolValue":1},"traceId":"x"}"#, "BadNumber at 80"),
+    ];
+    for (record, fault) in table {
+        let line = line_of(rt.alloc(), record)?;
+        let found = answer(&rt, rt.alloc(), line.as_bytes())?;
+        assert_eq!(rt; found.as_slice(), fault.as_bytes(), "{record}");
+    }
+    Ok(())
+}
+
+#[test]
+fn payloads_have_one_answer(rt: HostRuntime) -> Result<(), Fail> {
+    let table: [(&[u8], &str); 21] = [
+        (b"{}", r#"{"resourceLogs":[]}"#),
+        (b" { \"resourceLogs\" : null }\r\n", r#"{"resourceLogs":[]}"#),
+        (
+            br#"{"resourceLogs":[{"schemaUrl":"x"}]}"#,
+            r#"{"resourceLogs":[{"resource":{},"schemaUrl":"x"}]}"#,
+        ),
+        (
+            br#"{"resourceLogs":[{"schemaUrl":"u","scopeLogs":[{"schemaUrl":"v","logRecords":[],"scope":{"droppedAttributesCount":1,"attributes":[{"key":"b"}],"version":"2","name":"n"}}],"resource":{"droppedAttributesCount":2,"attributes":[{"key":"a"}]}}]}"#,
+            r#"{"resourceLogs":[{"resource":{"attributes":[{"key":"a","value":{}}],"droppedAttributesCount":2},"scopeLogs":[{"scope":{"name":"n","version":"2","attributes":[{"key":"b","value":{}}],"droppedAttributesCount":1},"schemaUrl":"v"}],"schemaUrl":"u"}]}"#,
+        ),
+        (
+            br#"{"resourceLogs":[{"scopeLogs":[{},{"scope":null}]},{}]}"#,
+            r#"{"resourceLogs":[{"resource":{},"scopeLogs":[{"scope":{}},{"scope":{}}]},{"resource":{}}]}"#,
+        ),
+        // Texts that are no JSON.
+        (b"", "BadJson at 0"),
+        (b" \t", "BadJson at 2"),
+        (b"{}x", "BadJson at 2"),
+        (b"\xef\xbb\xbf{}", "BadJson at 0"),
+        (b"{\"resourceLogs\":\"\\u00", "BadJson at 21"),
+        (b"{\"resourceLogs\":\"\\ud800\"}", "BadJson at 23"),
+        (b"{\"resourceLogs\":\"\\udc00\"}", "BadJson at 20"),
+        (b"{\"\xff", "BadUtf8 at 2"),
+        (b"{\"resourceLogs\":1,\xff", "BadUtf8 at 18"),
+        (b"{\"resourceLogs\":1,}", "BadJson at 18"),
+        // Values that are no payload.
+        (b"[]", "NotObject at 0"),
+        (b" \"{}\"", "NotObject at 1"),
+        (br#"{"resourceLogs":{}}"#, "WrongKind at 16"),
+        (br#"{"resourceLogs":[[]]}"#, "WrongKind at 17"),
+        (br#"{"resourceLogs":[{"resource":[]}]}"#, "WrongKind at 29"),
+        (br#"{"resourceLogs":[{"scopeLogs":[null]}]}"#, "WrongKind at 31"),
     ];
     for (line, wanted) in table {
-        let written = rewritten(&rt, rt.alloc(), line.as_bytes())?;
-        assert_eq!(rt; written.as_slice(), wanted.as_bytes(), "{line}");
-        let again = rewritten(&rt, rt.alloc(), wanted.as_bytes())?;
-        assert_eq!(rt; again.as_slice(), wanted.as_bytes(), "{wanted}");
+        let found = answer(&rt, rt.alloc(), line)?;
+        assert_eq!(rt; found.as_slice(), wanted.as_bytes(), "{line:?}");
     }
     Ok(())
 }
 
 #[test]
-fn lines_of_another_form_are_not_built(rt: HostRuntime) -> Result<(), Fail> {
-    let lines: [&[u8]; 18] = [
-        b"",
-        b"[]",
-        br#""hi""#,
-        br#"{"resourceLogs":"#,
-        b"{}x",
-        br#"{"resourceLogs":null}"#,
-        br#"{"resourceLogs":{}}"#,
-        br#"{"resourceLogs":[[]]}"#,
-        // Keys that aren't known.
-        br#"{"x":[]}"#,
-        br#"{"resourceLogs":[],"x":[]}"#,
-        br#"{"resourceLogs":[{"schemaUrl":"x"}]}"#,
-        br#"{"resourceLogs":[{"resource":{"x":"y"}}]}"#,
-        // Keys that stand twice.
-        br#"{"resourceLogs":[],"resourceLogs":[]}"#,
-        br#"{"resourceLogs":[{"resource":{},"resource":{}}]}"#,
-        br#"{"resourceLogs":[{"scopeLogs":[],"resource":{},"scopeLogs":[]}]}"#,
-        // Another kind than the member has.
-        br#"{"resourceLogs":[{"resource":[]}]}"#,
-        br#"{"resourceLogs":[{"scopeLogs":{}}]}"#,
-        br#"{"resourceLogs":[{"scopeLogs":[{"scope":"x"}]}]}"#,
-    ];
-    for line in lines {
-        assert!(rt; is_refused(&rt, rt.alloc(), line), "{line:?}");
+fn each_proper_front_is_refused_at_its_length(rt: HostRuntime) -> Result<(), Fail> {
+    let line = line_of(rt.alloc(), r#"{"body":{"stringValue":"hi"}}"#)?;
+    assert_eq!(rt; line.len(), 106);
+    for count in 0..106 {
+        let front = &line.as_bytes()[..count];
+        let fault = format!(in rt.alloc(); "BadJson at {count}")?;
+        let found = answer(&rt, rt.alloc(), front)?;
+        assert_eq!(rt; found.as_slice(), fault.as_bytes());
     }
     Ok(())
 }
 
-#[test]
-fn records_of_another_form_are_not_built(rt: HostRuntime) -> Result<(), Fail> {
-    let records: [&[u8]; 19] = [
-        // Pairs without a value, without a key, and with a key of another kind.
-        br#"{"attributes":[{"key":"k"}]}"#,
-        br#"{"attributes":[{"value":{"stringValue":"v"}}]}"#,
-        br#"{"attributes":[{}]}"#,
-        br#"{"attributes":[{"key":[],"value":{"stringValue":"v"}}]}"#,
-        br#"{"attributes":[{"key":"k","value":{"stringValue":"v"}},{"key":"k"}]}"#,
-        br#"{"attributes":{}}"#,
-        // Values without a member, with another, and with two.
-        br#"{"body":{}}"#,
-        br#"{"body":{"intValue":"1"}}"#,
-        br#"{"body":{"stringValue":"a","stringValue":"b"}}"#,
-        // Bodies of another kind.
-        br#"{"body":"hi"}"#,
-        br#"{"body":[]}"#,
-        br#"{"body":null}"#,
-        br#"{"body":{"stringValue":{}}}"#,
-        br#"{"body":{"stringValue":7}}"#,
-        br#"{"body":{"stringValue":true}}"#,
-        // A backslash, and bytes from 128 up.
-        b"{\"body\":{\"stringValue\":\"\\n\"}}",
-        b"{\"body\":{\"stringValue\":\"\xc3\xa9\"}}",
-        b"{\"body\":{\"stringValue\":\"\x80\"}}",
-        br#"{"severityText":"WARN"}"#,
-    ];
-    for record in records {
-        let mut line = BEFORE_RECORD.to_vec(rt.alloc())?;
-        line.extend_from_slice(record)?;
-        line.extend_from_slice(BEHIND_RECORD)?;
-        assert!(rt; is_refused(&rt, rt.alloc(), line.as_slice()), "{record:?}");
+/// A body in which so many values stand in one another.
+fn nested(alloc: Global, levels: usize) -> Result<String, AllocError> {
+    let mut record = String::from_str(alloc, r#"{"body":"#)?;
+    for _ in 1..levels {
+        record.push_str(r#"{"arrayValue":{"values":["#)?;
     }
-    Ok(())
+    record.push_str("{}")?;
+    for _ in 1..levels {
+        record.push_str("]}}")?;
+    }
+    record.push_str("}")?;
+    Ok(record)
 }
 
 #[test]
-fn three_hundred_bytes_may_open(rt: HostRuntime) -> Result<(), Fail> {
-    let line = opening(rt.alloc(), 300)?;
-    let written = rewritten(&rt, rt.alloc(), line.as_slice())?;
-    assert_eq!(rt; written.as_slice(), line.as_slice());
-    let longer = opening(rt.alloc(), 301)?;
-    assert!(rt; is_refused(&rt, rt.alloc(), longer.as_slice()));
+fn values_nest_sixty_four_deep(rt: HostRuntime) -> Result<(), Fail> {
+    let deep = line_of(rt.alloc(), nested(rt.alloc(), 64)?.as_str())?;
+    let written = answer(&rt, rt.alloc(), deep.as_bytes())?;
+    assert_eq!(rt; written.as_slice(), deep.as_bytes());
+    let deeper = line_of(rt.alloc(), nested(rt.alloc(), 65)?.as_str())?;
+    let fault = answer(&rt, rt.alloc(), deeper.as_bytes())?;
+    assert_eq!(rt; fault.as_slice(), b"TooDeep at 1679".as_slice());
+    let mut opening = String::from_str(rt.alloc(), r#"{"x":"#)?;
+    for _ in 0..300 {
+        opening.push_str("[")?;
+    }
+    let fault = answer(&rt, rt.alloc(), opening.as_bytes())?;
+    assert_eq!(rt; fault.as_slice(), b"TooDeep at 304".as_slice());
     Ok(())
 }
 
@@ -171,7 +277,5 @@ fn a_line_is_pushed_behind_what_stands(rt: HostRuntime) -> Result<(), Fail> {
     let mut out = b"x\n".to_vec(rt.alloc())?;
     push_line(&mut out, &batch)?;
     assert_eq!(rt; out.as_slice(), b"x\n{\"resourceLogs\":[]}".as_slice());
-    let name = format!(in rt.alloc(); "{NOT_BUILT}")?;
-    assert_eq!(rt; name.as_str(), "NotBuilt");
     Ok(())
 }

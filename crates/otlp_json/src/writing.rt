@@ -1,17 +1,24 @@
 //! Writes payloads in their one form.
 
-ghost use Rattle.std.specs.Prelude.{◌≡◌, ◌++◌, ◌∷◌, [], codes, map, if◌then◌else◌, IfOk, OnOk};
-ghost use Rattle.json_text.specs.Writing.{listed_from, member_text};
-ghost use Rattle.otlp_json.specs.Line.{IsPlain, list_member, value_text, pair_text, attributes_member, body_member, record_text, scope_text, resource_text, line};
+ghost use Rattle.std.specs.Prelude.{◌≡◌, ◌++◌, false, true, codes, map, IfOk, OnOk};
+ghost use Rattle.json_text.specs.Writing.{text_of};
+ghost use Rattle.otlp_json.specs.Line as spec;
+ghost use Rattle.otlp_json.specs.Line.{line, object_json};
+ghost use Rattle.otlp_json.specs.Adding.{Adds};
 
-use json_text::{push_comma_before, push_text};
-use pdata_tree::{Batch, LogRecord, ResourceTree, ScopeTree};
-use pdata_value::{Pairs, Text, Value};
+mod lists;
+mod members;
+mod values;
+
+use lists::{ToJson, push_list, push_list_member};
+use members::{push_i32_member, push_id_member, push_key, push_text_member, push_u32_member, push_u64_member};
+use pdata_tree::{Batch, LogRecord, ResourceNode, ResourceTree, ScopeNode, ScopeTree};
+use pdata_value::{Pairs, Value};
 use std::alloc::{AllocError, Global};
+use values::{push_pairs, push_value};
 
 /// The line of a payload, without a newline.
 pub fn write_line(alloc: Global, batch: &Batch) -> Result<Vec<u8>, AllocError>
-    requires { IsPlain batch.now }
     ensures { IfOk result (λ bytes. bytes.items ≡ line batch.now) }
 {
     let mut out = Vec::new(alloc);
@@ -21,187 +28,124 @@ pub fn write_line(alloc: Global, batch: &Batch) -> Result<Vec<u8>, AllocError>
 
 /// Appends the line of a payload, without a newline. An Err leaves what stood there, and some of the line behind it.
 pub fn push_line(out: &mut Vec<u8>, batch: &Batch) -> Result<(), AllocError>
-    requires { IsPlain batch.now }
     ensures { OnOk result (out.new.items ≡ out.old.items ++ line batch.now) }
 {
-    out.extend_from_slice(b"{\"resourceLogs\":[")?;
-    push_resources(out, batch.resources.as_slice())?;
-    out.extend_from_slice(b"]}")?;
-    Ok(())
-}
-
-fn push_resources(out: &mut Vec<u8>, resources: &[ResourceTree]) -> Result<(), AllocError>
-    ensures { OnOk result (out.new.items ≡ out.old.items ++ listed_from 0 (map resource_text resources.now)) }
-{
-    for (index, resource) in resources.iter().enumerate() {
-        push_comma_before(out, index)?;
-        push_resource(out, resource)?;
-    }
-    Ok(())
-}
-
-fn push_resource(out: &mut Vec<u8>, resource: &ResourceTree) -> Result<(), AllocError>
-    ensures { OnOk result (out.new.items ≡ out.old.items ++ resource_text resource.now) }
-{
-    out.extend_from_slice(b"{\"resource\":{")?;
-    push_attributes(out, &resource.node.attributes, 0)?;
-    out.push(b'}')?;
-    push_scope_logs(out, resource.scopes.as_slice())?;
+    out.push(b'{')?;
+    push_key(out, false, "resourceLogs")?;
+    push_list(out, batch.resources.as_slice())?;
     out.push(b'}')?;
     Ok(())
 }
 
-// The member `scopeLogs`, where there are scopes.
-fn push_scope_logs(out: &mut Vec<u8>, scopes: &[ScopeTree]) -> Result<(), AllocError>
-    ensures { OnOk result (out.new.items ≡ out.old.items ++ listed_from 1
-        (map member_text (list_member (codes "scopeLogs") (map scope_text scopes.now)))) }
-{
-    if scopes.is_empty() {
-        return Ok(());
+impl ToJson for ResourceTree {
+    ghost json = { spec.resource_logs_json };
+
+    fn push(&self, out: &mut Vec<u8>) -> Result<(), AllocError> {
+        out.push(b'{')?;
+        push_key(out, false, "resource")?;
+        push_resource(out, &self.node)?;
+        let scopes = push_list_member(out, true, "scopeLogs", self.scopes.as_slice())?;
+        push_text_member(out, scopes, "schemaUrl", &self.node.schema_url)?;
+        out.push(b'}')?;
+        Ok(())
     }
-    out.extend_from_slice(b",\"scopeLogs\":[")?;
-    push_scopes(out, scopes)?;
-    out.push(b']')?;
-    Ok(())
 }
 
-fn push_scopes(out: &mut Vec<u8>, scopes: &[ScopeTree]) -> Result<(), AllocError>
-    ensures { OnOk result (out.new.items ≡ out.old.items ++ listed_from 0 (map scope_text scopes.now)) }
-{
-    for (index, scope) in scopes.iter().enumerate() {
-        push_comma_before(out, index)?;
-        push_scope(out, scope)?;
-    }
-    Ok(())
-}
-
-fn push_scope(out: &mut Vec<u8>, scope: &ScopeTree) -> Result<(), AllocError>
-    ensures { OnOk result (out.new.items ≡ out.old.items ++ scope_text scope.now) }
-{
-    out.extend_from_slice(b"{\"scope\":{")?;
-    push_attributes(out, &scope.node.attributes, 0)?;
-    out.push(b'}')?;
-    push_log_records(out, scope.logs.as_slice())?;
-    out.push(b'}')?;
-    Ok(())
-}
-
-// The member `logRecords`, where there are log records.
-fn push_log_records(out: &mut Vec<u8>, logs: &[LogRecord]) -> Result<(), AllocError>
-    ensures { OnOk result (out.new.items ≡ out.old.items ++ listed_from 1
-        (map member_text (list_member (codes "logRecords") (map record_text logs.now)))) }
-{
-    if logs.is_empty() {
-        return Ok(());
-    }
-    out.extend_from_slice(b",\"logRecords\":[")?;
-    push_records(out, logs)?;
-    out.push(b']')?;
-    Ok(())
-}
-
-fn push_records(out: &mut Vec<u8>, logs: &[LogRecord]) -> Result<(), AllocError>
-    ensures { OnOk result (out.new.items ≡ out.old.items ++ listed_from 0 (map record_text logs.now)) }
-{
-    for (index, log) in logs.iter().enumerate() {
-        push_comma_before(out, index)?;
-        push_record(out, log)?;
-    }
-    Ok(())
-}
-
-fn push_record(out: &mut Vec<u8>, log: &LogRecord) -> Result<(), AllocError>
-    ensures { OnOk result (out.new.items ≡ out.old.items ++ record_text log.now) }
+fn push_resource(out: &mut Vec<u8>, resource: &ResourceNode) -> Result<(), AllocError>
+    ensures { OnOk result (out.new.items ≡ out.old.items
+        ++ text_of (object_json (spec.resource_members resource.now))) }
 {
     out.push(b'{')?;
-    push_record_members(out, log)?;
+    let attributes = push_attributes(out, false, &resource.attributes)?;
+    push_u32_member(out, attributes, "droppedAttributesCount", resource.dropped)?;
     out.push(b'}')?;
     Ok(())
 }
 
-fn push_record_members(out: &mut Vec<u8>, log: &LogRecord) -> Result<(), AllocError>
-    ensures { OnOk result (out.new.items ≡ out.old.items ++ listed_from 0
-        (map member_text (body_member log.now.body ++ attributes_member log.now.attributes))) }
-{
-    if !has_body(&log.body) {
-        return push_attributes(out, &log.attributes, 0);
+impl ToJson for ScopeTree {
+    ghost json = { spec.scope_logs_json };
+
+    fn push(&self, out: &mut Vec<u8>) -> Result<(), AllocError> {
+        out.push(b'{')?;
+        push_key(out, false, "scope")?;
+        push_scope(out, &self.node)?;
+        let logs = push_list_member(out, true, "logRecords", self.logs.as_slice())?;
+        push_text_member(out, logs, "schemaUrl", &self.node.schema_url)?;
+        out.push(b'}')?;
+        Ok(())
     }
-    out.extend_from_slice(b"\"body\":")?;
-    push_value(out, &log.body)?;
-    push_attributes(out, &log.attributes, 1)
 }
 
-// The member `attributes`, where there are any, behind so many other members.
-fn push_attributes(out: &mut Vec<u8>, attributes: &Pairs, index: usize) -> Result<(), AllocError>
-    ensures { OnOk result (out.new.items ≡ out.old.items ++ listed_from index
-        (map member_text (attributes_member attributes.now))) }
+fn push_scope(out: &mut Vec<u8>, scope: &ScopeNode) -> Result<(), AllocError>
+    ensures { OnOk result (out.new.items ≡ out.old.items
+        ++ text_of (object_json (spec.scope_members scope.now))) }
 {
-    if attributes.len() == 0 {
-        return Ok(());
-    }
-    push_comma_before(out, index)?;
-    out.extend_from_slice(b"\"attributes\":[")?;
-    push_pairs(out, attributes.as_slice())?;
-    out.push(b']')?;
-    Ok(())
-}
-
-fn push_pairs(out: &mut Vec<u8>, pairs: &[(Text, Value)]) -> Result<(), AllocError>
-    ensures { OnOk result (out.new.items ≡ out.old.items ++ listed_from 0 (map pair_text pairs.now)) }
-{
-    for (index, pair) in pairs.iter().enumerate() {
-        push_comma_before(out, index)?;
-        push_pair(out, pair)?;
-    }
-    Ok(())
-}
-
-fn push_pair(out: &mut Vec<u8>, pair: &(Text, Value)) -> Result<(), AllocError>
-    ensures { OnOk result (out.new.items ≡ out.old.items ++ pair_text pair.now) }
-{
-    let (key, value) = pair;
-    out.extend_from_slice(b"{\"key\":")?;
-    push_text(out, key.as_str())?;
-    out.extend_from_slice(b",\"value\":")?;
-    push_value(out, value)?;
+    out.push(b'{')?;
+    let name = push_text_member(out, false, "name", &scope.name)?;
+    let version = push_text_member(out, name, "version", &scope.version)?;
+    let attributes = push_attributes(out, version, &scope.attributes)?;
+    push_u32_member(out, attributes, "droppedAttributesCount", scope.dropped)?;
     out.push(b'}')?;
     Ok(())
 }
 
-// Whether a body is written: the empty value is left out.
-#[tactic(auto, using(crate::proofs::Values::body_members))]
-fn has_body(body: &Value) -> bool
-    ensures { body_member body.now ≡ (if result then (codes "body", value_text body.now) ∷ [] else []) }
-{
-    match body {
-        Value::Empty => false,
-        Value::Text(_) => true,
-        Value::Truth(_) => true,
-        Value::Int(_) => true,
-        Value::Double(_) => true,
-        Value::Bytes(_) => true,
-        Value::List(_) => true,
-        Value::Map(_) => true,
+impl ToJson for LogRecord {
+    ghost json = { spec.record_json };
+
+    fn push(&self, out: &mut Vec<u8>) -> Result<(), AllocError> {
+        out.push(b'{')?;
+        push_record_members(out, self)?;
+        out.push(b'}')?;
+        Ok(())
     }
 }
 
-#[tactic(auto, using(crate::proofs::Values::value_texts))]
-fn push_value(out: &mut Vec<u8>, value: &Value) -> Result<(), AllocError>
-    ensures { OnOk result (out.new.items ≡ out.old.items ++ value_text value.now) }
+fn push_record_members(out: &mut Vec<u8>, log: &LogRecord) -> Result<bool, AllocError>
+    ensures { IfOk result (λ now. Adds (spec.record_members log.now) false out.old.items now out.new.items) }
+{
+    let time = push_u64_member(out, false, "timeUnixNano", log.time)?;
+    let observed = push_u64_member(out, time, "observedTimeUnixNano", log.observed)?;
+    let severity = push_i32_member(out, observed, "severityNumber", log.severity)?;
+    let text = push_text_member(out, severity, "severityText", &log.severity_text)?;
+    let body = push_body(out, text, &log.body)?;
+    let attributes = push_attributes(out, body, &log.attributes)?;
+    let dropped = push_u32_member(out, attributes, "droppedAttributesCount", log.dropped)?;
+    let flags = push_u32_member(out, dropped, "flags", log.flags)?;
+    let trace = push_id_member::<16>(out, flags, "traceId", &log.trace_id)?;
+    let span = push_id_member::<8>(out, trace, "spanId", &log.span_id)?;
+    Ok(span)
+}
+
+#[tactic(auto, using(crate::proofs::ValueJson::empty_values))]
+fn is_empty_value(value: &Value) -> bool
+    ensures { result ≡ spec.is_empty_value value.now }
 {
     match value {
-        Value::Text(text) => {
-            out.extend_from_slice(b"{\"stringValue\":")?;
-            push_text(out, text.as_str())?;
-            out.push(b'}')?;
-            Ok(())
-        }
-        Value::Empty => out.extend_from_slice(b"{}"),
-        Value::Truth(_) => out.extend_from_slice(b"{}"),
-        Value::Int(_) => out.extend_from_slice(b"{}"),
-        Value::Double(_) => out.extend_from_slice(b"{}"),
-        Value::Bytes(_) => out.extend_from_slice(b"{}"),
-        Value::List(_) => out.extend_from_slice(b"{}"),
-        Value::Map(_) => out.extend_from_slice(b"{}"),
+        Value::Empty => true,
+        _ => false,
     }
+}
+
+fn push_body(out: &mut Vec<u8>, some: bool, body: &Value) -> Result<bool, AllocError>
+    ensures { IfOk result (λ now. Adds (spec.body_member body.now) some out.old.items now out.new.items) }
+{
+    if is_empty_value(body) {
+        return Ok(some);
+    }
+    push_key(out, some, "body")?;
+    push_value(out, body)?;
+    Ok(true)
+}
+
+fn push_attributes(out: &mut Vec<u8>, some: bool, attributes: &Pairs) -> Result<bool, AllocError>
+    ensures { IfOk result (λ now. Adds (spec.attributes_member attributes.now) some out.old.items now out.new.items) }
+{
+    if attributes.len() == 0 {
+        return Ok(some);
+    }
+    push_key(out, some, "attributes")?;
+    out.push(b'[')?;
+    push_pairs(out, attributes.as_slice())?;
+    out.push(b']')?;
+    Ok(true)
 }

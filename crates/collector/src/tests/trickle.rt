@@ -59,7 +59,7 @@ fn devices_that_take_one_byte_a_call_get_the_same_bytes(rt: HostRuntime) -> Resu
         notes.inner.bytes(),
     )?;
     let want =
-        b"SomeRefused|{\"resourceLogs\":[]}\n{\"resourceLogs\":[]}\n|payloads 3 accepted 2 refused 1\n|payload 2 refused NotBuilt\n";
+        b"SomeRefused|{\"resourceLogs\":[]}\n{\"resourceLogs\":[]}\n|payloads 3 accepted 2 refused 1\n|payload 2 refused NotObject at 0\n";
     assert_eq!(rt; told.as_slice(), want.as_slice());
     Ok(())
 }
