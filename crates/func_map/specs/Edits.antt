@@ -11,10 +11,10 @@ use Rattle.pdata_value.specs.declared.merge.Strategy.TheVariants.{Insert, Update
 use Rattle.pdata_value.specs.declared.value.Value.{Value, out-Value}
 use Rattle.pdata_value.specs.declared.value.Value.TheOpen.{Value-F}
 use Rattle.pdata_value.specs.declared.value.Value.TheVariants as kind
-use Rattle.func_text.specs.Answers.{◌>>=◌}
+use Rattle.pdata_value.specs.Answers.{◌>>=◌}
 use Rattle.func_text.specs.Matching.{changed}
 use Rattle.func_text.specs.Patterns.{has_match, replaced}
-use Rattle.func_text.specs.Wanted.{Layer, made, map_of}
+use Rattle.pdata_value.specs.Wanted.{Layer, made, map_of}
 
 -- the pairs of a map, each with its key
 abbrev pub Entries : Type 0

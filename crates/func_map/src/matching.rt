@@ -3,7 +3,7 @@
 
 ghost use Rattle.std.specs.Prelude.{◌≡◌, IfOk};
 ghost use Rattle.pdata_value.specs.Value.{pairs};
-ghost use Rattle.func_text.specs.Answers.{Answers};
+ghost use Rattle.pdata_value.specs.Answers.{Answers};
 ghost use Rattle.func_map.specs.Edits.{delete_matching_keys_of, keep_matching_keys_of, matched, unmatched};
 
 use crate::target::{new_map, target_in};

@@ -5,7 +5,7 @@ ghost use Rattle.contract_words.specs.Gives.{Gives};
 ghost use Rattle.pdata_value.specs.Errors.{eval_fault};
 ghost use Rattle.pdata_value.specs.Value.{pairs};
 ghost use Rattle.pdata_value.specs.declared.value.Value.{out-Value};
-ghost use Rattle.func_text.specs.Answers.{Answers};
+ghost use Rattle.pdata_value.specs.Answers.{Answers};
 ghost use Rattle.func_map.specs.Edits.{IsStrategy, merge_maps_of, or_empty, other_layer, strategy_of};
 
 use crate::target::{new_map, target_in};

@@ -4,7 +4,7 @@ ghost use Rattle.std.specs.Prelude.{◌≡◌, IfOk, [], map};
 ghost use Rattle.pdata_value.specs.Value.{pairs};
 ghost use Rattle.pdata_value.specs.Pairs.{put_all};
 ghost use Rattle.pdata_value.specs.declared.value.Value.{out-Value};
-ghost use Rattle.func_text.specs.Answers.{Answers};
+ghost use Rattle.pdata_value.specs.Answers.{Answers};
 ghost use Rattle.func_map.specs.Edits.{IsMode, all_replaced, replace_all_patterns_of, replaced_in, replaced_key, replaced_value};
 
 use crate::target::{new_map, target_in};

@@ -4,9 +4,9 @@ ghost use Rattle.std.specs.Prelude.{◌≡◌, option_map};
 ghost use Rattle.contract_words.specs.Gives.{Gives};
 ghost use Rattle.pdata_value.specs.Errors.{eval_fault};
 ghost use Rattle.pdata_value.specs.Value.{pairs};
-ghost use Rattle.func_text.specs.Answers.{Answers};
+ghost use Rattle.pdata_value.specs.Answers.{Answers};
 ghost use Rattle.func_text.specs.Matching.{changed};
-ghost use Rattle.func_text.specs.Wanted.{made, map_of};
+ghost use Rattle.pdata_value.specs.Wanted.{made, map_of};
 ghost use Rattle.func_map.specs.Edits.{set_of, target_in};
 
 use func_text::made;

@@ -3,8 +3,8 @@ use Rattle.std.proofs.Common.{◌≡◌, ℕ, List, [], ◌∷◌, ◌++◌, Opt
 use Rattle.std.specs.Prelude.{unwrap_or, Result, Ok, Err}
 use Rattle.pdata_value.specs.declared.error.EvalErr.{EvalErr}
 use Rattle.pdata_value.specs.declared.value.Value.{Value}
-use Rattle.func_text.specs.Answers.{◌>>=◌}
-use Rattle.func_text.specs.Shown.{shown}
+use Rattle.pdata_value.specs.Answers.{◌>>=◌}
+use Rattle.pdata_value.specs.Shown.{shown}
 use Rattle.func_text.specs.Texts.{all_shown, each_after}
 use Rattle.func_text.specs.Joining.{behind, each_behind}
 

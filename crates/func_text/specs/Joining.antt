@@ -2,7 +2,7 @@
 use Rattle.std.specs.Prelude.{ℕ, List, [], ◌++◌, Option, unwrap_or, Result, Ok}
 use Rattle.pdata_value.specs.declared.error.EvalErr.{EvalErr}
 use Rattle.pdata_value.specs.declared.value.Value.{Value}
-use Rattle.func_text.specs.Answers.{◌>>=◌}
+use Rattle.pdata_value.specs.Answers.{◌>>=◌}
 use Rattle.func_text.specs.Texts.{all_shown, each_after, joined}
 
 -- a text with the text of a value behind it

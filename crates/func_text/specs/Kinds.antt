@@ -4,7 +4,7 @@ use Rattle.pdata_value.specs.declared.error.EvalErr.{EvalErr}
 use Rattle.pdata_value.specs.declared.value.Value.{Value, out-Value}
 use Rattle.pdata_value.specs.declared.value.Value.TheOpen.{Value-F}
 use Rattle.pdata_value.specs.declared.value.Value.TheVariants as kind
-use Rattle.func_text.specs.Wanted.{Layer}
+use Rattle.pdata_value.specs.Wanted.{Layer}
 
 abbrev pub text_kind : Layer → Bool
 text_kind (Value-F.Text text) = true

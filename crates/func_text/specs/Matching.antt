@@ -5,10 +5,10 @@ use Rattle.pdata_value.specs.declared.error.EvalErr.TheVariants.{KindOf}
 use Rattle.pdata_value.specs.declared.value.Value.{Value, out-Value}
 use Rattle.pdata_value.specs.declared.value.Value.TheOpen.{Value-F}
 use Rattle.pdata_value.specs.declared.value.Value.TheVariants as kind
-use Rattle.func_text.specs.Answers.{◌>>=◌}
+use Rattle.pdata_value.specs.Answers.{◌>>=◌}
 use Rattle.func_text.specs.Patterns.{has_match, replaced, named_groups}
-use Rattle.func_text.specs.Shown.{shown_layer}
-use Rattle.func_text.specs.Wanted.{Layer, text_in, made, map_of}
+use Rattle.pdata_value.specs.Shown.{shown_layer}
+use Rattle.pdata_value.specs.Wanted.{Layer, text_in, made, map_of}
 
 -- IsMatch: whether the text of a value has a match. Nil has none; bytes are of another kind.
 

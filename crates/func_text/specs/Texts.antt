@@ -10,9 +10,9 @@ use Rattle.pdata_value.specs.declared.error.EvalErr.TheVariants.{Range}
 use Rattle.pdata_value.specs.declared.value.Value.{Value, out-Value}
 use Rattle.pdata_value.specs.declared.value.Value.TheOpen.{Value-F}
 use Rattle.pdata_value.specs.declared.value.Value.TheVariants as kind
-use Rattle.func_text.specs.Answers.{◌>>=◌}
-use Rattle.func_text.specs.Wanted.{Layer, not_wanted, text_in, int_in, list_in, made, texts_of}
-use Rattle.func_text.specs.Shown.{shown}
+use Rattle.pdata_value.specs.Answers.{◌>>=◌}
+use Rattle.pdata_value.specs.Wanted.{Layer, not_wanted, text_in, int_in, list_in, made, texts_of}
+use Rattle.pdata_value.specs.Shown.{shown}
 
 -- Concat: the texts of a list's elements, joined by a separator. The text of nil is empty.
 
@@ -120,12 +120,3 @@ int_of_layer other = not_wanted other
 
 abbrev pub int_of : Value → Result Value EvalErr
 int_of value = int_of_layer (out-Value value)
-
--- String: the text of a value; nil is nil.
-
-abbrev pub text_or_nil : Option (List ℕ) → Result Value EvalErr
-text_or_nil None = Ok kind.Empty
-text_or_nil (Some text) = made (kind.Text text)
-
-abbrev pub string_of : Value → Result Value EvalErr
-string_of value = shown value >>= text_or_nil

@@ -3,14 +3,12 @@
 ghost use Rattle.std.specs.Prelude.{string_bytes};
 ghost use Rattle.contract_words.specs.Gives.{Gives};
 ghost use Rattle.pdata_value.specs.Errors.{eval_fault};
-ghost use Rattle.func_text.specs.Answers.{Answers};
+ghost use Rattle.pdata_value.specs.Answers.{Answers};
 ghost use Rattle.func_text.specs.Joining.{behind, each_behind, joined_of};
-ghost use Rattle.func_text.specs.Shown.{shown};
+ghost use Rattle.pdata_value.specs.Shown.{shown};
 ghost use Rattle.func_text.specs.Texts.{concat_of};
 
-use crate::showing::shown;
-use crate::wanted::{list_in, made};
-use pdata_value::{EvalStop, Text, Value};
+use pdata_value::{EvalStop, Text, Value, list_in, made, shown};
 use std::alloc::Global;
 
 /// The texts of a list's elements, joined by the separator. The text of nil is empty.

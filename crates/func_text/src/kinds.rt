@@ -1,6 +1,6 @@
 //! Tests for a kind.
 
-ghost use Rattle.func_text.specs.Answers.{Answers};
+ghost use Rattle.pdata_value.specs.Answers.{Answers};
 ghost use Rattle.func_text.specs.Kinds as spec;
 
 use pdata_value::{EvalStop, Value};

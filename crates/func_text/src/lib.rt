@@ -9,9 +9,7 @@ mod matchers;
 mod matching;
 mod numbers;
 mod pattern;
-mod showing;
 mod splitting;
-mod wanted;
 
 pub use joining::concat;
 pub use kinds::{is_bool, is_double, is_int, is_list, is_map, is_string};
@@ -23,9 +21,8 @@ pub use matching::{
 };
 pub use numbers::{int, len};
 pub use pattern::{MakeStop, Pattern, PatternMaker, RegexMaker};
-pub use showing::{shown, string};
+pub use pdata_value::string;
 pub use splitting::{split, substring};
-pub use wanted::{int_in, list_in, made, text_in};
 
 #[cfg(test)]
 mod tests;

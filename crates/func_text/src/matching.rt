@@ -2,14 +2,12 @@
 //! with a matcher that the caller keeps.
 
 ghost use Rattle.std.specs.Prelude.{◌≡◌};
-ghost use Rattle.func_text.specs.Answers.{Answers};
+ghost use Rattle.pdata_value.specs.Answers.{Answers};
 ghost use Rattle.func_text.specs.Matching.{is_match_of, extract_patterns_of, replace_pattern_of};
 
 use crate::matcher::PatternMatcher;
 use crate::pattern::Pattern;
-use crate::showing::shown;
-use crate::wanted::{made, text_in};
-use pdata_value::{EvalErr, EvalStop, Text, Value};
+use pdata_value::{EvalErr, EvalStop, Text, Value, made, shown, text_in};
 use std::alloc::Global;
 
 /// Whether the text of a value has a match.

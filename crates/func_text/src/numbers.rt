@@ -1,7 +1,7 @@
 //! Lengths, and the numbers that values stand for.
 
 ghost use Rattle.std.specs.Prelude.{◌≡◌};
-ghost use Rattle.func_text.specs.Answers.{Answers};
+ghost use Rattle.pdata_value.specs.Answers.{Answers};
 ghost use Rattle.func_text.specs.Texts.{len_of, int_of, int_or_nil};
 
 use pdata_value::{EvalErr, EvalStop, Value};

@@ -3,11 +3,10 @@
 ghost use Rattle.std.specs.Prelude.{◌≡◌, ◌<◌, IfOk, length, map, option_map};
 ghost use Rattle.pdata_value.specs.Value.{items};
 ghost use Rattle.pdata_value.specs.declared.value.Value.TheVariants as kind;
-ghost use Rattle.func_text.specs.Answers.{Answers};
+ghost use Rattle.pdata_value.specs.Answers.{Answers};
 ghost use Rattle.func_text.specs.Texts.{split_of, substring_of, part_of, pieces};
 
-use crate::wanted::{int_in, made, text_in};
-use pdata_value::{EvalErr, EvalStop, Text, Value, Values};
+use pdata_value::{EvalErr, EvalStop, Text, Value, Values, int_in, made, text_in};
 use std::alloc::{AllocError, Global};
 
 /// The pieces of a text between the occurrences of a separator.

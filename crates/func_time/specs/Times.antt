@@ -6,9 +6,9 @@ use Rattle.pdata_value.specs.declared.error.EvalErr.{EvalErr}
 use Rattle.pdata_value.specs.declared.error.EvalErr.TheVariants.{Overflow}
 use Rattle.pdata_value.specs.declared.value.Value.{Value}
 use Rattle.pdata_value.specs.declared.value.Value.TheVariants as kind
-use Rattle.func_text.specs.Answers.{◌>>=◌}
+use Rattle.pdata_value.specs.Answers.{◌>>=◌}
 use Rattle.func_text.specs.Texts.{in_64_bits}
-use Rattle.func_text.specs.Wanted.{text_in, int_in, made}
+use Rattle.pdata_value.specs.Wanted.{text_in, int_in, made}
 use Rattle.func_time.specs.Formats.{moment_in, time_text}
 use Rattle.func_time.specs.Moments.{civil_year, civil_month, civil_day, clock_hour, clock_minute, clock_second, clock_nanosecond, week_day}
 

@@ -1,6 +1,6 @@
 //! Parts of a time.
 
-ghost use Rattle.func_text.specs.Answers.{Answers};
+ghost use Rattle.pdata_value.specs.Answers.{Answers};
 ghost use Rattle.func_time.specs.Times.{year_of, month_of, day_of, hour_of, minute_of, second_of, nanosecond_of, weekday_of};
 
 use crate::civil::{civil, week_day};

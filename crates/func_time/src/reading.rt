@@ -4,7 +4,7 @@ ghost use Rattle.std.specs.Prelude.{◌≡◌, ◌++◌, false, IfOk, IfSome, On
 ghost use Rattle.jiff_strtime.specs.Text.{parts_of};
 ghost use Rattle.func_time.specs.Formats.{has_from, full_format, full_text, civil_moment, moment_of, moment_in, unless_has, ranged, is_date, is_time};
 ghost use Rattle.jiff_core.specs.DateTime.{civil_nanos};
-ghost use Rattle.func_text.specs.Answers.{Answers};
+ghost use Rattle.pdata_value.specs.Answers.{Answers};
 
 use jiff_core::civil::{Date, DateTime, Time};
 use jiff_strtime::BrokenDownTime;

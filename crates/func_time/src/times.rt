@@ -1,14 +1,13 @@
 //! Times from texts and numbers, and back.
 
 ghost use Rattle.std.specs.Prelude.{◌≡◌, ◌+ℤ◌, ◌*ℤ◌, pos, true};
-ghost use Rattle.func_text.specs.Answers.{Answers};
+ghost use Rattle.pdata_value.specs.Answers.{Answers};
 ghost use Rattle.func_time.specs.Formats.{is_format};
 ghost use Rattle.func_time.specs.Times.{time_of, format_time_of, summed, unix_of, unix_seconds_of, unix_milli_of, unix_micro_of, unix_nano_of};
 
 use crate::printing::time_text;
 use crate::reading::moment_in;
-use func_text::{int_in, made, text_in};
-use pdata_value::{EvalErr, EvalStop, Text, Value};
+use pdata_value::{EvalErr, EvalStop, Text, Value, int_in, made, text_in};
 use std::alloc::Global;
 
 /// The time that a text has under a format of `%Y %m %d %H %M %S %%`.
