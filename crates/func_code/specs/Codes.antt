@@ -1,4 +1,4 @@
--- The functions on codes, each as its row of the table of functions in docs/OTTL.md.
+-- The functions on codes, each as its row of the table of functions in docs/FUNCTIONS.md.
 use Rattle.std.specs.Prelude.{ℕ, nat_lt, cond, length, List, Result, Ok, Err}
 use Rattle.std.specs.Str.{is_utf8}
 use Rattle.base64.specs.Engines.{standard}

@@ -1,4 +1,4 @@
--- The functions on texts, each as its row of the table of functions in docs/OTTL.md.
+-- The functions on texts, each as its row of the table of functions in docs/FUNCTIONS.md.
 use Rattle.std.specs.Prelude.{ℕ, zero, suc, ◌+◌, ◌-◌, ◌==◌, ◌&&◌, not, nat_le, nat_lt, ℤ, pos, neg_ℤ, int_le, Bool, true, false, cond, List, [], ◌∷◌, ◌++◌, length, take, slice_index, slice_range, Option, Some, None, unwrap_or, Result, Ok, Err}
 use Rattle.std.specs.Char.{digit_value}
 use Rattle.std.specs.List.{list_all}
