@@ -1,4 +1,4 @@
--- The editors, each as its row of the table of functions in docs/OTTL.md. An editor answers the target's new value, or
+-- The editors, each as its row of the table of functions in docs/FUNCTIONS.md. An editor answers the target's new value, or
 -- None where there is no action.
 use Rattle.std.specs.Prelude.{◌≡◌, ◌⊎◌, ℕ, not, cond, codes, List, [], filter, map, Option, Some, None, Result, Ok, Err}
 use Rattle.std.specs.Str.{bytes_eq}

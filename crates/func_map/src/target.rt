@@ -9,8 +9,7 @@ ghost use Rattle.func_text.specs.Matching.{changed};
 ghost use Rattle.pdata_value.specs.Wanted.{made, map_of};
 ghost use Rattle.func_map.specs.Edits.{set_of, target_in};
 
-use func_text::made;
-use pdata_value::{EvalErr, EvalStop, Pairs, Value};
+use pdata_value::{EvalErr, EvalStop, Pairs, Value, made};
 
 /// The value, which is then written, unless it is nil.
 pub fn set(_target: &Value, value: &Value) -> Result<Option<Value>, EvalStop>

@@ -1,13 +1,12 @@
 -- Texts that spell integers.
 use Rattle.std.proofs.Common.{◌≡◌, ◌∙◌, ◌<◌, ◌≤◌, ℕ, Bool, true, false, List, [], ◌∷◌, refl, sym, ap, arith, w64}
-use Rattle.std.specs.Prelude.{ℤ, pos, negsuc, nat_lt, nat_le, ◌&&◌, cond}
+use Rattle.std.specs.Prelude.{Some, None, ℤ, pos, negsuc, nat_lt, nat_le, ◌&&◌, cond}
 use mir.Val.{SFits as FitsSigned}
 use Rattle.std.specs.Char.{digit_value}
 use Rattle.std.specs.List.{list_all}
 use Rattle.std.specs.Str.Parse.{AllDigits, IsNumeral, without_leading_sign, signed_digits_value}
 use Rattle.std.proofs.lemmas.Bool.Decides.{nat_tests}
-use Rattle.pdata_value.specs.declared.value.Value.TheVariants as kind
-use Rattle.func_text.specs.Texts.{are_digits, in_64_bits, int_or_nil}
+use Rattle.func_text.specs.Texts.{are_digits, in_64_bits, spelled_int}
 
 lt_true : (a b : ℕ) → a < b → nat_lt a b ≡ true
 lt_true a b h = grind (arith, nat_tests)
@@ -68,12 +67,12 @@ abbrev Parsed : List ℕ → Type 0
 Parsed text = IsNumeral 10 (without_leading_sign text) × FitsSigned w64 (signed_digits_value 10 text)
 
 -- the number that `parse` answers
-pub spelled : (text : List ℕ) (n : ℤ) → Parsed text × (n ≡ signed_digits_value 10 text) → kind.Int n ≡ int_or_nil text
+pub spelled : (text : List ℕ) (n : ℤ) → Parsed text × (n ≡ signed_digits_value 10 text) → Some n ≡ spelled_int text
 spelled text n h =
-    ap (λ (k : ℤ). kind.Int k) h.1
-    ∙ sym (picks _ (kind.Int (signed_digits_value 10 text)) kind.Empty (both _ _ (numeral _ h.0.0) (within _ h.0.1)))
+    ap (λ (k : ℤ). Some k) h.1
+    ∙ sym (picks _ (Some (signed_digits_value 10 text)) None (both _ _ (numeral _ h.0.0) (within _ h.0.1)))
 
--- nil where `parse` refuses
-pub not_spelled : (text : List ℕ) → (Parsed text → ⊥) → kind.Empty ≡ int_or_nil text
+-- none where `parse` refuses
+pub not_spelled : (text : List ℕ) → (Parsed text → ⊥) → None ≡ spelled_int text
 not_spelled text h =
-    sym (refused _ (kind.Int (signed_digits_value 10 text)) kind.Empty (λ t. h (digits _ (left _ _ t), fits _ (right _ _ t))))
+    sym (refused _ (Some (signed_digits_value 10 text)) None (λ t. h (digits _ (left _ _ t), fits _ (right _ _ t))))

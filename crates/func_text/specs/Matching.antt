@@ -1,4 +1,4 @@
--- The functions on patterns, each as its row of the table of functions in docs/OTTL.md.
+-- The functions on patterns, each as its row of the table of functions in docs/FUNCTIONS.md.
 use Rattle.std.specs.Prelude.{ℕ, Bool, false, List, Option, Some, None, Result, Ok, Err}
 use Rattle.pdata_value.specs.declared.error.EvalErr.{EvalErr}
 use Rattle.pdata_value.specs.declared.error.EvalErr.TheVariants.{KindOf}

@@ -1,4 +1,4 @@
--- The functions on texts, each as its row of the table of functions in docs/OTTL.md.
+-- The functions on texts, each as its row of the table of functions in docs/FUNCTIONS.md.
 use Rattle.std.specs.Prelude.{ℕ, zero, suc, ◌+◌, ◌-◌, ◌==◌, ◌&&◌, not, nat_le, nat_lt, ℤ, pos, neg_ℤ, int_le, Bool, true, false, cond, List, [], ◌∷◌, ◌++◌, length, take, slice_index, slice_range, Option, Some, None, unwrap_or, Result, Ok, Err}
 use Rattle.std.specs.Char.{digit_value}
 use Rattle.std.specs.List.{list_all}
@@ -101,11 +101,15 @@ are_digits ds = nat_lt 0 (length ds) && list_all (λ b. nat_lt (digit_value b) 1
 abbrev pub in_64_bits : ℤ → Bool
 in_64_bits n = int_le (neg_ℤ (pos 9223372036854775808)) n && int_le n (pos 9223372036854775807)
 
--- the number that a text spells, within 64 bits signed
-abbrev pub int_or_nil : List ℕ → Value
-int_or_nil text =
+-- the number that an optional sign and decimal digits spell, within 64 bits signed
+abbrev pub spelled_int : List ℕ → Option ℤ
+spelled_int text =
     cond (are_digits (without_leading_sign text) && in_64_bits (signed_digits_value 10 text))
-    (kind.Int (signed_digits_value 10 text)) kind.Empty
+    (Some (signed_digits_value 10 text)) None
+
+abbrev pub int_or_nil : Option ℤ → Value
+int_or_nil None = kind.Empty
+int_or_nil (Some int) = kind.Int int
 
 abbrev pub truth_int : Bool → ℤ
 truth_int true = pos 1
@@ -115,7 +119,7 @@ abbrev pub int_of_layer : Layer → Result Value EvalErr
 int_of_layer Value-F.Empty = Ok kind.Empty
 int_of_layer (Value-F.Int int) = Ok (kind.Int int)
 int_of_layer (Value-F.Truth truth) = Ok (kind.Int (truth_int truth))
-int_of_layer (Value-F.Text text) = Ok (int_or_nil text)
+int_of_layer (Value-F.Text text) = Ok (int_or_nil (spelled_int text))
 int_of_layer other = not_wanted other
 
 abbrev pub int_of : Value → Result Value EvalErr

@@ -19,7 +19,7 @@ pub use matching::{
     extract_patterns, extract_patterns_with, is_match, is_match_with, replace_pattern,
     replace_pattern_with,
 };
-pub use numbers::{int, len};
+pub use numbers::{int, len, spelled_int};
 pub use pattern::{MakeStop, Pattern, PatternMaker, RegexMaker};
 pub use pdata_value::string;
 pub use splitting::{split, substring};

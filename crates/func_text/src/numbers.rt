@@ -2,7 +2,7 @@
 
 ghost use Rattle.std.specs.Prelude.{◌≡◌};
 ghost use Rattle.pdata_value.specs.Answers.{Answers};
-ghost use Rattle.func_text.specs.Texts.{len_of, int_of, int_or_nil};
+ghost use Rattle.func_text.specs.Texts.{len_of, int_of, spelled_int};
 
 use pdata_value::{EvalErr, EvalStop, Value};
 
@@ -30,17 +30,21 @@ pub fn int(value: &Value) -> Result<Value, EvalStop>
         Value::Empty => Ok(Value::Empty),
         Value::Int(int) => Ok(Value::Int(*int)),
         Value::Truth(truth) => Ok(Value::Int(i64::from(*truth))),
-        Value::Text(text) => Ok(int_or_nil(text.as_str())),
+        Value::Text(text) => match spelled_int(text.as_str()) {
+            Some(int) => Ok(Value::Int(int)),
+            None => Ok(Value::Empty),
+        },
         Value::Double(_) => Err(EvalStop::Err(EvalErr::Double)),
         _ => Err(EvalStop::Err(EvalErr::KindOf)),
     }
 }
 
-fn int_or_nil(text: &str) -> Value
-    ensures { result ≡ int_or_nil text.now }
+/// The integer that an optional sign and decimal digits spell, within 64 bits signed.
+pub fn spelled_int(text: &str) -> Option<i64>
+    ensures { result ≡ spelled_int text.now }
 {
     match text.parse::<i64>() {
-        Ok(int) => Value::Int(int),
-        Err(_) => Value::Empty,
+        Ok(int) => Some(int),
+        Err(_) => None,
     }
 }

@@ -1,4 +1,4 @@
--- The functions on times, each as its row of the table of functions in docs/OTTL.md. A time is an integer of nanoseconds
+-- The functions on times, each as its row of the table of functions in docs/FUNCTIONS.md. A time is an integer of nanoseconds
 -- since 1970-01-01T00:00:00 in UTC.
 use Rattle.std.specs.Prelude.{ℕ, ℤ, pos, ◌+ℤ◌, ◌*ℤ◌, cond, List, Result, Ok, Err}
 use Rattle.std.specs.Int.{int_div_euclid}

@@ -4,8 +4,7 @@ ghost use Rattle.pdata_value.specs.Answers.{Answers};
 ghost use Rattle.func_time.specs.Times.{year_of, month_of, day_of, hour_of, minute_of, second_of, nanosecond_of, weekday_of};
 
 use crate::civil::{civil, week_day};
-use func_text::int_in;
-use pdata_value::{EvalStop, Value};
+use pdata_value::{EvalStop, Value, int_in};
 
 pub fn year(value: &Value) -> Result<Value, EvalStop>
     ensures { Answers result (year_of value.now) }

@@ -1,8 +1,8 @@
 //! Rows of the table of functions, and what `jiff` itself prints.
 
 use crate::{
-    day, format_time, hour, is_time_format, minute, month, nanosecond, second, time, unix,
-    unix_micro, unix_milli, unix_nano, unix_seconds, weekday, year,
+    day, format_time, hour, is_time_format, minute, moments_are_those_of_dates_and_times, month,
+    nanosecond, second, time, unix, unix_micro, unix_milli, unix_nano, unix_seconds, weekday, year,
 };
 use pdata_value::{Bytes, EvalErr, EvalStop, Spelling, Text, Value, Values};
 use std::alloc::Global;
@@ -32,6 +32,7 @@ fn text_of(answer: Result<Value, EvalStop>) -> Result<Text, Fail> {
 #[test]
 fn texts_are_read_by_formats(rt: HostRuntime) -> Result<(), Fail> {
     let alloc = rt.alloc();
+    moments_are_those_of_dates_and_times();
     for (text, format, want) in [
         ("1970-01-02", "%Y-%m-%d", Ok(86_400_000_000_000)),
         (

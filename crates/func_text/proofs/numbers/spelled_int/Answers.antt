@@ -1,15 +1,14 @@
 use Rattle.std.proofs.Common.{◌∙◌, ap, w64, rules}
-use Rattle.std.specs.Prelude.{ℤ}
+use Rattle.std.specs.Prelude.{Some, ℤ}
 use mir.Val.{SFits}
 use Rattle.std.proofs.lemmas.Int.{to_z-of_z}
-use Rattle.pdata_value.specs.declared.value.Value.TheVariants as kind
 use Rattle.func_text.proofs.Spelled.{spelled, not_spelled}
-use Rattle.func_text.proofs.numbers.int_or_nil.Goals as goal
+use Rattle.func_text.proofs.numbers.spelled_int.Goals as goal
 
 pub returns-in-Ok : goal.returns-in-Ok
 returns-in-Ok c =
     let fits : SFits w64 c.in-Ok.int = search rules in
-    ap (λ (n : ℤ). kind.Int n) (to_z-of_z w64 c.in-Ok.int fits) ∙ spelled c.args.text.now c.in-Ok.int c.in-Ok.ensures.value.0
+    ap (λ (n : ℤ). Some n) (to_z-of_z w64 c.in-Ok.int fits) ∙ spelled c.args.text.now c.in-Ok.int c.in-Ok.ensures.value.0
 
 pub returns-in-Err : goal.returns-in-Err
 returns-in-Err c = not_spelled c.args.text.now c.in-Err.ensures.value.0

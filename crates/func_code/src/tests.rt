@@ -1,0 +1,153 @@
+//! Rows of the table of functions, and vectors of FIPS 180-4 and RFC 4648.
+
+use crate::{decode, hex_text, parse_json, sha256};
+use pdata_value::{Bytes, EvalStop, Pairs, Spelling, Text, Value, Values};
+use std::alloc::Global;
+use std::test::Fail;
+
+fn text(alloc: Global, text: &str) -> Result<Value, Fail> {
+    Ok(Value::Text(Text::from_str(alloc, text)?))
+}
+
+// A text behind `'`, a scalar as it is written in JSON behind nothing, an error behind `!`.
+fn note(alloc: Global, answer: Result<Value, EvalStop>) -> Result<String, Fail> {
+    let note = match answer {
+        Ok(Value::Empty) => String::from_str(alloc, "nil")?,
+        Ok(Value::Text(text)) => format!(in alloc; "'{}", text.as_str())?,
+        Ok(Value::Truth(truth)) => format!(in alloc; "{}", truth)?,
+        Ok(Value::Int(int)) => format!(in alloc; "{}", int)?,
+        Ok(Value::Double(spelling)) => format!(in alloc; "~{}", spelling.as_str())?,
+        Ok(Value::Bytes(_)) => String::from_str(alloc, "bytes")?,
+        Ok(Value::List(list)) => format!(in alloc; "[{}]", list.len())?,
+        Ok(Value::Map(map)) => format!(in alloc; "{{{}}}", map.len())?,
+        Err(EvalStop::Err(error)) => format!(in alloc; "!{}", error)?,
+        Err(EvalStop::NoMemory) => return Err(Fail::from("no memory")),
+    };
+    Ok(note)
+}
+
+#[test]
+fn digests_and_digits(rt: HostRuntime) -> Result<(), Fail> {
+    let alloc = rt.alloc();
+    let digest = sha256(alloc, &text(alloc, "abc")?);
+    assert_eq!(rt;
+        note(alloc, digest)?.as_str(),
+        "'ba7816bf8f01cfea414140de5dae2223b00361a396177a9cb410ff61f20015ad"
+    );
+    let digest = sha256(alloc, &Value::Bytes(Bytes::from_slice(alloc, b"")?));
+    assert_eq!(rt;
+        note(alloc, digest)?.as_str(),
+        "'e3b0c44298fc1c149afbf4c8996fb92427ae41e4649b934ca495991b7852b855"
+    );
+    assert_eq!(rt;
+        note(alloc, hex_text(alloc, &text(alloc, "abc")?))?.as_str(),
+        "'616263"
+    );
+    let bytes = Value::Bytes(Bytes::from_slice(alloc, &[0, 255])?);
+    assert_eq!(rt; note(alloc, hex_text(alloc, &bytes))?.as_str(), "'00ff");
+    assert_eq!(rt;
+        note(alloc, hex_text(alloc, &text(alloc, "")?))?.as_str(),
+        "'"
+    );
+    Ok(())
+}
+
+#[test]
+fn base64_is_strict(rt: HostRuntime) -> Result<(), Fail> {
+    let alloc = rt.alloc();
+    let code = Text::from_str(alloc, "base64")?;
+    for (spelled, want) in [
+        ("aGk=", "'hi"),
+        ("", "'"),
+        ("Zm9vYmFy", "'foobar"),
+        ("aGk", "!BadText"),
+        ("aGl=", "!BadText"),
+        ("a-k=", "!BadText"),
+        ("aGk=\n", "!BadText"),
+        ("/w==", "!BadText"),
+    ] {
+        let decoded = decode(alloc, &text(alloc, spelled)?, &code);
+        assert_eq!(rt; note(alloc, decoded)?.as_str(), want, "at {spelled}");
+    }
+    Ok(())
+}
+
+#[test]
+fn json_is_parsed(rt: HostRuntime) -> Result<(), Fail> {
+    let alloc = rt.alloc();
+    for (json, want) in [
+        ("null", "nil"),
+        (" true ", "true"),
+        ("\"\\u00e9\"", "'é"),
+        ("-0", "0"),
+        ("9223372036854775807", "9223372036854775807"),
+        ("9223372036854775808", "~9223372036854775808"),
+        ("-9223372036854775808", "-9223372036854775808"),
+        ("1.0", "~1.0"),
+        ("1e2", "~1e2"),
+        ("[1,2.0]", "[2]"),
+        ("{\"a\":1,\"b\":2,\"a\":3}", "{2}"),
+        ("[", "!BadText"),
+        ("", "!BadText"),
+        ("01", "!BadText"),
+    ] {
+        let value = parse_json(alloc, &text(alloc, json)?);
+        assert_eq!(rt; note(alloc, value)?.as_str(), want, "at {json}");
+    }
+    let Ok(Value::Map(map)) = parse_json(alloc, &text(alloc, "{\"a\":1,\"b\":2,\"a\":3}")?) else {
+        return Err(Fail::from("no map"));
+    };
+    assert!(rt; matches!(map.at(0), Some(("a", Value::Int(3)))));
+    Ok(())
+}
+
+// A text of so many brackets, closed again.
+fn nested(alloc: Global, depth: usize) -> Result<Value, Fail> {
+    let mut json = String::new(alloc);
+    for _ in 0..depth {
+        json.push_str("[")?;
+    }
+    for _ in 0..depth {
+        json.push_str("]")?;
+    }
+    Ok(Value::Text(Text::from_string(json)))
+}
+
+#[test]
+fn json_ends_at_its_limits(rt: HostRuntime) -> Result<(), Fail> {
+    let alloc = rt.alloc();
+    for (depth, want) in [(63usize, "[1]"), (64, "[1]"), (65, "!BadText")] {
+        let value = parse_json(alloc, &nested(alloc, depth)?);
+        assert_eq!(rt; note(alloc, value)?.as_str(), want, "at {depth}");
+    }
+    let blanks = String::from_utf8(vec![in alloc; b' '; 16_777_217]?)?;
+    let value = parse_json(alloc, &Value::Text(Text::from_string(blanks)));
+    assert_eq!(rt; note(alloc, value)?.as_str(), "!Large");
+    Ok(())
+}
+
+#[test]
+fn other_kinds_are_refused(rt: HostRuntime) -> Result<(), Fail> {
+    let alloc = rt.alloc();
+    let code = Text::from_str(alloc, "base64")?;
+    for (value, want) in [
+        (Value::Empty, "!NilArgument"),
+        (Value::Double(Spelling::read(alloc, "1.5")?), "!Double"),
+        (Value::Truth(true), "!KindOf"),
+        (Value::Int(1), "!KindOf"),
+        (Value::List(Values::new(alloc)), "!KindOf"),
+        (Value::Map(Pairs::new(alloc)), "!KindOf"),
+    ] {
+        assert_eq!(rt; note(alloc, sha256(alloc, &value))?.as_str(), want);
+        assert_eq!(rt; note(alloc, hex_text(alloc, &value))?.as_str(), want);
+        assert_eq!(rt; note(alloc, decode(alloc, &value, &code))?.as_str(), want);
+        assert_eq!(rt; note(alloc, parse_json(alloc, &value))?.as_str(), want);
+    }
+    let bytes = Value::Bytes(Bytes::from_slice(alloc, b"1")?);
+    assert_eq!(rt;
+        note(alloc, decode(alloc, &bytes, &code))?.as_str(),
+        "!KindOf"
+    );
+    assert_eq!(rt; note(alloc, parse_json(alloc, &bytes))?.as_str(), "!KindOf");
+    Ok(())
+}
