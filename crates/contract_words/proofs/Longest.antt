@@ -2,7 +2,8 @@
 use Rattle.std.proofs.Common.{◌≡◌, ◌<◌, ◌≤◌, ℕ, zero, suc, Bool, true, false, List, [], ◌∷◌, ◌++◌, length, take, Option, Some, None, refl, ap, sym, ◌∙◌, inl, inr, append_assoc, subst, cond, arith}
 use Rattle.std.specs.Prelude.{◌⊎◌, ◌&&◌, ◌||◌}
 use Rattle.contract_words.specs.Grammar.{Rule, nothing, byte, alt, seq, many, spells, nullable, first, after}
-use Rattle.contract_words.specs.Rows.{viable_row, row_first, fits, fits_row, step, stop, one_more, IsLongest}
+use Rattle.contract_words.specs.Fronts.{IsLongest}
+use Rattle.contract_words.specs.Rows.{viable_row, row_first, fits, fits_row, step, stop, one_more}
 use Rattle.contract_words.proofs.Predictive.{into, skip, row_empty, and_l, and_r, false_or}
 
 -- the empty text is spelled where a rule is nullable
@@ -127,13 +128,13 @@ goes_on : (rs ss : List Rule) (b : ℕ) (text : List ℕ) (n : ℕ) → ((z : Li
 goes_on rs ss b text n into never zero lt le h = absurd (omega arith)
 goes_on rs ss b text n into never (suc m) lt le h = never m (omega arith) (omega arith) (into (take m text) h)
 
-pub longest : (rs : List Rule) (text : List ℕ) → fits_row rs → IsLongest rs text (stop rs text)
-longest rs [] f = record { within = omega arith; begun = row_empty rs; never_more = λ m lt le h. absurd (omega arith) }
+pub longest : (rs : List Rule) (text : List ℕ) → fits_row rs → IsLongest (viable_row rs) text (stop rs text)
+longest rs [] f = record { within = omega arith; begun = row_empty rs; no_longer = λ m lt le h. absurd (omega arith) }
 longest rs (b ∷ text) f = longest_step rs b text f (λ ss. longest ss text) (step rs b) refl
   where
-    longest_step : (rs : List Rule) (b : ℕ) (text : List ℕ) → fits_row rs → ((ss : List Rule) → fits_row ss → IsLongest ss text (stop ss text)) → (o : Option (List Rule)) → step rs b ≡ o → IsLongest rs (b ∷ text) (one_more o (λ ss. stop ss text))
-    longest_step rs b text f more None e = record { within = omega arith; begun = row_empty rs; never_more = λ m lt le h. nothing_more rs b text e m lt h }
+    longest_step : (rs : List Rule) (b : ℕ) (text : List ℕ) → fits_row rs → ((ss : List Rule) → fits_row ss → IsLongest (viable_row ss) text (stop ss text)) → (o : Option (List Rule)) → step rs b ≡ o → IsLongest (viable_row rs) (b ∷ text) (one_more o (λ ss. stop ss text))
+    longest_step rs b text f more None e = record { within = omega arith; begun = row_empty rs; no_longer = λ m lt le h. nothing_more rs b text e m lt h }
     longest_step rs b text f more (Some ss) e =
         let s = step_on rs b f ss e in
         let l = more ss s.0 in
-        record { within = omega (arith, l.within); begun = s.2 (take (stop ss text) text) l.begun; never_more = λ m lt le h. goes_on rs ss b text (stop ss text) s.1 l.never_more m lt le h }
+        record { within = omega (arith, l.within); begun = s.2 (take (stop ss text) text) l.begun; no_longer = λ m lt le h. goes_on rs ss b text (stop ss text) s.1 l.no_longer m lt le h }

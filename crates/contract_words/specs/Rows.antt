@@ -1,5 +1,5 @@
 -- Rules in a row, and when one byte tells which way a rule goes.
-use Rattle.std.specs.Prelude.{◌≡◌, ◌<◌, ◌≤◌, ◌∷◌, ◌++◌, [], ◌&&◌, ◌||◌, ℕ, suc, Bool, true, false, List, length, take, Option, Some, None, ◌⊎◌, if◌then◌else◌}
+use Rattle.std.specs.Prelude.{◌≡◌, ◌∷◌, ◌++◌, [], ◌&&◌, ◌||◌, ℕ, suc, Bool, true, false, List, Option, Some, None, ◌⊎◌, if◌then◌else◌}
 use Rattle.contract_words.specs.Grammar.{Rule, nothing, byte, alt, seq, many, spells, viable, nullable, first, after}
 
 abbrev pub viable_row : List Rule → List ℕ → Type 0
@@ -43,8 +43,21 @@ abbrev pub stop : List Rule → List ℕ → ℕ
 stop rs [] = 0
 stop rs (b ∷ text) = one_more (step rs b) (λ ss. stop ss text)
 
--- the longest viable front of the text has this length
-pub record IsLongest (rs : List Rule) (text : List ℕ) (n : ℕ) : Type 0 where
-  pub within : n ≤ length text
-  pub begun : viable_row rs (take n text)
-  pub never_more : (m : ℕ) → n < m → m ≤ length text → viable_row rs (take m text) → ⊥
+-- the rules spell the text, one after another
+abbrev pub spells_row : List Rule → List ℕ → Type 0
+spells_row [] text = text ≡ []
+spells_row (r ∷ rs) text = (x : List ℕ) × (y : List ℕ) × spells r x × spells_row rs y × (text ≡ x ++ y)
+
+-- a row that may spell the empty text
+abbrev pub row_nullable : List Rule → Bool
+row_nullable [] = true
+row_nullable (r ∷ rs) = nullable r && row_nullable rs
+
+-- a row run over a text: how many bytes it takes, and whether the text may end there
+abbrev pub taken : Option (List Rule) → (List Rule → ℕ × Bool) → ℕ × Bool
+taken None f = (0, false)
+taken (Some rs) f = (suc (f rs).0, (f rs).1)
+
+abbrev pub run : List Rule → List ℕ → ℕ × Bool
+run rs [] = (0, row_nullable rs)
+run rs (b ∷ text) = taken (step rs b) (λ ss. run ss text)

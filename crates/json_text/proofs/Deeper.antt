@@ -1,8 +1,9 @@
 -- A grammar that nests deeper has more texts and more viable prefixes.
 use Rattle.std.proofs.Common.{◌≡◌, ℕ, zero, suc, ◌+◌, List, take, Err, inl, inr, subst, arith}
+use Rattle.contract_words.specs.Fronts.{IsLongest}
 use Rattle.contract_words.specs.Grammar.{Rule, alt, seq, many, Turns, spells, viable}
 use Rattle.json_text.specs.Reading.{json_text}
-use Rattle.json_text.specs.Grammar.{one, ws, text_rule, scalar_rule, comma_rule, sequence_rule, list_rule, member_rule, object_rule, value_rule, json, IsLongestViable, IsLongestPrefix}
+use Rattle.json_text.specs.Grammar.{one, ws, text_rule, scalar_rule, comma_rule, sequence_rule, list_rule, member_rule, object_rule, value_rule, json, IsJsonPrefix}
 use Rattle.json_text.specs.declared.error.JsonFault.TheVariants.{BadJson}
 use Rattle.json_text.proofs.Law.{bad_longest}
 
@@ -78,9 +79,9 @@ json_more (suc more) d text h =
     subst (λ (n : ℕ). viable (json n) text) (let next : suc (more + d) ≡ suc more + d = omega arith in next) ((json_grows (more + d)).begun text (json_more more d text h))
 
 -- BadJson stands at the end of the longest viable prefix, however deep that nests
-pub bad_prefix : (bytes : List ℕ) (depth at : ℕ) → json_text bytes depth ≡ Err (BadJson at) → IsLongestPrefix bytes at
+pub bad_prefix : (bytes : List ℕ) (depth at : ℕ) → json_text bytes depth ≡ Err (BadJson at) → IsLongest IsJsonPrefix bytes at
 bad_prefix bytes depth at is =
-    let here : IsLongestViable (json depth) bytes at = bad_longest bytes depth at depth is (omega arith) in
+    let here : IsLongest (viable (json depth)) bytes at = bad_longest bytes depth at depth is (omega arith) in
     record {
       within = here.within;
       begun = (depth, here.begun);

@@ -7,20 +7,24 @@ use Rattle.std.proofs.lemmas.Bool.Decides.{nat_tests}
 use Rattle.std.proofs.lemmas.List.{append-nil}
 use Rattle.std.proofs.lemmas.Str.{utf8_valid_len-IsUtf8}
 use Rattle.contract_words.specs.Grammar.{Rule, seq, spells, viable}
-use Rattle.contract_words.specs.Rows.{viable_row, stop, IsLongest}
+use Rattle.contract_words.specs.Fronts.{IsLongest}
+use Rattle.contract_words.specs.Rows.{viable_row, stop}
 use Rattle.contract_words.proofs.Viable.{spelled_viable}
 use Rattle.contract_words.proofs.Longest.{longest}
 use Rattle.json_text.specs.Place.{Rest, is_blank, blanks}
 use Rattle.json_text.specs.Reading.{◌>>=◌, Reads, value, ended, document, json_text}
-use Rattle.json_text.specs.Grammar.{ws, value_rule, json, IsLongestViable}
+use Rattle.json_text.specs.Grammar.{ws, value_rule, json}
 use Rattle.json_text.specs.declared.json.Json.{Json}
 use Rattle.json_text.specs.declared.error.JsonFault.{JsonFault}
 use Rattle.json_text.specs.declared.error.JsonFault.TheVariants.{BadUtf8, BadJson, TooDeep, NoMemory}
 use Rattle.json_text.proofs.Values.{same_length}
-use Rattle.json_text.proofs.Runs.{run, run-stop, run-seq, Goes, Stops, Deep, Follows, goes_then, follows_then, follows_same}
+use Rattle.contract_words.specs.Rows.{run}
+use Rattle.contract_words.proofs.Machine.{run-stop, run-seq}
+use Rattle.json_text.proofs.Runs.{Goes, Stops, Deep, Follows, goes_then, follows_then, follows_same}
 use Rattle.json_text.proofs.Parts.{behind_it, behind_follows}
 use Rattle.json_text.proofs.ValueParts.{Depths, value_follows}
-use Rattle.json_text.proofs.Whole.{spells_row, spelled_of_run, run_of_spelled}
+use Rattle.contract_words.specs.Rows.{spells_row}
+use Rattle.contract_words.proofs.Whole.{spelled_of_run, run_of_spelled}
 use Rattle.json_text.proofs.Fitting.{json_fits}
 
 -- what an answer says of a run of the grammar
@@ -75,15 +79,15 @@ one_row rule text (inr h) = subst (viable rule) (sym (h.4 ∙ ap (λ (y : List �
 one_spelled : (rule : Rule) (text : List ℕ) → spells_row (rule ∷ []) text → spells rule text
 one_spelled rule text h = subst (spells rule) (sym (h.4 ∙ ap (λ (y : List ℕ). h.0 ++ y) h.3 ∙ append-nil h.0)) h.2
 
-longest_of : (d : ℕ) (bytes : List ℕ) (n : ℕ) → n ≡ (run (json d ∷ []) bytes).0 → IsLongestViable (json d) bytes n
+longest_of : (d : ℕ) (bytes : List ℕ) (n : ℕ) → n ≡ (run (json d ∷ []) bytes).0 → IsLongest (viable (json d)) bytes n
 longest_of d bytes n is =
     let all = longest (json d ∷ []) bytes (json_fits d) in
     let same : stop (json d ∷ []) bytes ≡ n = sym (is ∙ run-stop (json d ∷ []) bytes) in
-    let at_n : IsLongest (json d ∷ []) bytes n = subst (λ (m : ℕ). IsLongest (json d ∷ []) bytes m) same all in
+    let at_n : IsLongest (viable_row (json d ∷ [])) bytes n = subst (λ (m : ℕ). IsLongest (viable_row (json d ∷ [])) bytes m) same all in
     record {
       within = at_n.within;
       begun = one_row (json d) (take n bytes) at_n.begun;
-      no_longer = λ more above within h. at_n.never_more more above within (inl h);
+      no_longer = λ more above within h. at_n.no_longer more above within (inl h);
     }
 
 -- An answer of `json_text` is `document`'s, or tells of the bytes.
@@ -124,13 +128,13 @@ spelled_is_read bytes depth utf8 spelled =
     subst (λ (res : Result Json JsonFault). IsOk res) (sym (same_length bytes (utf8_valid_len-IsUtf8 bytes utf8) depth)) (spelled_read depth bytes (document depth bytes) (judged false depth depth refl bytes) runs)
 
 -- BadJson stands at the end of the longest viable prefix, in a grammar at least as deep
-bad_at : (deeper : Bool) (depth d : ℕ) → Depths deeper depth d → (bytes : List ℕ) (at : ℕ) → json_text bytes depth ≡ Err (BadJson at) → IsLongestViable (json d) bytes at
+bad_at : (deeper : Bool) (depth d : ℕ) → Depths deeper depth d → (bytes : List ℕ) (at : ℕ) → json_text bytes depth ≡ Err (BadJson at) → IsLongest (viable (json d)) bytes at
 bad_at deeper depth d deep bytes at is =
     let o : ℕ × Bool = run (json d ∷ []) bytes in
     let stops : Judged deeper o (record { at = 0; left = bytes }) (Err (BadJson at)) = subst (Judged deeper o (record { at = 0; left = bytes })) (bad_of bytes depth at is) (judged deeper depth d deep bytes) in
     longest_of d bytes at (omega (arith, stops.place, ap (λ (p : ℕ × Bool). p.0) stops.runs))
 
-pub bad_longest : (bytes : List ℕ) (depth at d : ℕ) → json_text bytes depth ≡ Err (BadJson at) → depth ≤ d → IsLongestViable (json d) bytes at
+pub bad_longest : (bytes : List ℕ) (depth at d : ℕ) → json_text bytes depth ≡ Err (BadJson at) → depth ≤ d → IsLongest (viable (json d)) bytes at
 bad_longest bytes depth at d is le = by_depth (same_or_less depth d le) where
   same_or_less : (a b : ℕ) → a ≤ b → (a ≡ b) ⊎ (a < b)
   same_or_less zero zero h = inl refl
@@ -138,19 +142,19 @@ bad_longest bytes depth at d is le = by_depth (same_or_less depth d le) where
   same_or_less (suc a) zero h = absurd (omega arith)
   same_or_less (suc a) (suc b) h = elim (same_or_less a b (omega arith)) [ inl e ↦ inl (ap suc e) | inr l ↦ inr (omega arith) ]
 
-  by_depth : (depth ≡ d) ⊎ (depth < d) → IsLongestViable (json d) bytes at
+  by_depth : (depth ≡ d) ⊎ (depth < d) → IsLongest (viable (json d)) bytes at
   by_depth (inl e) = bad_at false depth d e bytes at is
   by_depth (inr l) = bad_at true depth d l bytes at is
 
 -- TooDeep stands at the end of the longest viable prefix of the grammar of that depth
-pub deep_longest : (bytes : List ℕ) (depth at : ℕ) → json_text bytes depth ≡ Err (TooDeep at) → IsLongestViable (json depth) bytes at
+pub deep_longest : (bytes : List ℕ) (depth at : ℕ) → json_text bytes depth ≡ Err (TooDeep at) → IsLongest (viable (json depth)) bytes at
 deep_longest bytes depth at is =
     let o : ℕ × Bool = run (json depth ∷ []) bytes in
     let stops : Judged false o (record { at = 0; left = bytes }) (Err (TooDeep at)) = subst (Judged false o (record { at = 0; left = bytes })) (deep_of bytes depth at is) (judged false depth depth refl bytes) in
     longest_of depth bytes at (omega (arith, stops.place, ap (λ (p : ℕ × Bool). p.0) stops.runs))
 
 -- a deeper grammar goes on there
-pub deep_goes_on : (bytes : List ℕ) (depth at d : ℕ) → json_text bytes depth ≡ Err (TooDeep at) → depth < d → (n : ℕ) × (at < n) × IsLongestViable (json d) bytes n
+pub deep_goes_on : (bytes : List ℕ) (depth at d : ℕ) → json_text bytes depth ≡ Err (TooDeep at) → depth < d → (n : ℕ) × (at < n) × IsLongest (viable (json d)) bytes n
 deep_goes_on bytes depth at d is less =
     let o : ℕ × Bool = run (json d ∷ []) bytes in
     let opens : Judged true o (record { at = 0; left = bytes }) (Err (TooDeep at)) = subst (Judged true o (record { at = 0; left = bytes })) (deep_of bytes depth at is) (judged true depth d less bytes) in

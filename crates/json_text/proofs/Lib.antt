@@ -9,7 +9,6 @@ pub mod Parts
 pub mod NumberParts
 pub mod TextParts
 pub mod ValueParts
-pub mod Whole
 pub mod Fitting
 pub mod Law
 pub mod Numbers

@@ -11,11 +11,12 @@ use Rattle.json_text.specs.Reading.{◌>>=◌, number_end, number}
 use Rattle.json_text.specs.declared.error.JsonFault.{JsonFault}
 use Rattle.json_text.specs.declared.error.JsonFault.TheVariants.{BadUtf8, BadJson, TooDeep, NoMemory}
 use Rattle.json_text.proofs.Numerals.{number_end-spelled, Spelled-word}
-use Rattle.json_text.proofs.Runs.{run, Goes, Follows}
+use Rattle.contract_words.specs.Rows.{run}
+use Rattle.json_text.proofs.Runs.{Goes, Follows}
 use Rattle.json_text.proofs.Parts.{here}
 use Rattle.json_text.proofs.NumberParts.{number_end_follows}
 use Rattle.json_text.proofs.Fitting.{numeral_fits}
-use Rattle.json_text.proofs.Whole.{spelled_of_run, run_of_spelled}
+use Rattle.contract_words.proofs.Whole.{spelled_of_run, run_of_spelled}
 use Rattle.json_text.proofs.TextBack.{rest_at}
 
 -- Each byte of what a rule spells is of a kind.

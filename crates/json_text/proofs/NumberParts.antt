@@ -9,7 +9,9 @@ use Rattle.json_text.specs.Place.{Rest, behind}
 use Rattle.json_text.specs.Reading.{Reads, ◌>>=◌, one_of, some_digits, integer, fraction, exponent, passed, number_end, number}
 use Rattle.json_text.specs.declared.error.JsonFault.{JsonFault}
 use Rattle.json_text.specs.declared.error.JsonFault.TheVariants.{BadJson}
-use Rattle.json_text.proofs.Runs.{run, run-steps, run-seq, step-right, step-left, Goes, Follows, follows_then, follows_bind, follows_same, follows_less, goes_on}
+use Rattle.contract_words.specs.Rows.{run}
+use Rattle.contract_words.proofs.Machine.{run-steps, run-seq, step-right, step-left}
+use Rattle.json_text.proofs.Runs.{Goes, Follows, follows_then, follows_bind, follows_same, follows_less, goes_on}
 use Rattle.json_text.proofs.Parts.{here, behind_it, byte_goes, byte_stops, stops_here, stops_same, one_of_follows, behind_follows}
 
 -- a part that may be missing, where it is

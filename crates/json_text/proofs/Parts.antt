@@ -8,7 +8,9 @@ use Rattle.json_text.specs.Place.{Rest, head, past, behind}
 use Rattle.json_text.specs.Reading.{one_of, this, these}
 use Rattle.json_text.specs.Grammar.{one, word_rule}
 use Rattle.json_text.specs.declared.error.JsonFault.TheVariants.{BadJson}
-use Rattle.json_text.proofs.Runs.{run, taken, run-steps, run-seq, run-nothing, step-end, ahead, Goes, Stops, Follows, follows_then, follows_bind, follows_same, follows_less, goes_on}
+use Rattle.contract_words.specs.Rows.{run, taken}
+use Rattle.contract_words.proofs.Machine.{run-steps, run-seq, run-nothing, step-end}
+use Rattle.json_text.proofs.Runs.{ahead, Goes, Stops, Follows, follows_then, follows_bind, follows_same, follows_less, goes_on}
 
 abbrev pub here : Rest → Rest
 here r = r

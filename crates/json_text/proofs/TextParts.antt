@@ -8,7 +8,9 @@ use Rattle.contract_words.specs.Grammar.{Rule, byte, seq, many, first}
 use Rattle.json_text.specs.Place.{Rest}
 use Rattle.json_text.specs.Reading.{Reads, ◌>>=◌, with_front, one_of, this, hex, two_more, low_half, from_d, unit, is_short, short, escape, is_plain, piece, text, quoted}
 use Rattle.json_text.specs.Grammar.{one, hex_rule, two_digits, low_rule, behind_d, unit_rule, escape_rule, piece_rule, text_rule}
-use Rattle.json_text.proofs.Runs.{run, run-steps, run-seq, step-right, step-left, step-turn, step-end, follows_from, Goes-shorter, Follows, follows_then, follows_bind, follows_same, follows_less, goes_on}
+use Rattle.contract_words.specs.Rows.{run}
+use Rattle.contract_words.proofs.Machine.{run-steps, run-seq, step-right, step-left, step-turn, step-end}
+use Rattle.json_text.proofs.Runs.{follows_from, Goes-shorter, Follows, follows_then, follows_bind, follows_same, follows_less, goes_on}
 use Rattle.json_text.proofs.Parts.{here, behind_it, byte_goes, byte_stops, stops_here, stops_same, this_follows, one_of_follows}
 use Rattle.json_text.proofs.NumberParts.{first_byte}
 use Rattle.json_text.proofs.Turns.{text-bad}

@@ -13,7 +13,9 @@ use Rattle.json_text.specs.declared.json.JsonKind.{JsonKind}
 use Rattle.json_text.specs.declared.json.JsonKind.TheVariants as kinds
 use Rattle.json_text.specs.declared.error.JsonFault.{JsonFault}
 use Rattle.json_text.specs.declared.error.JsonFault.TheVariants.{BadJson, TooDeep}
-use Rattle.json_text.proofs.Runs.{run, row_nullable, run-steps, run-seq, step-right, step-left, step-turn, step-end, Opens, Deep, Follows, follows_then, follows_bind, follows_from, follows_same, follows_less, goes_on, Goes-shorter, Goes-no_longer}
+use Rattle.contract_words.specs.Rows.{run, row_nullable}
+use Rattle.contract_words.proofs.Machine.{run-steps, run-seq, step-right, step-left, step-turn, step-end}
+use Rattle.json_text.proofs.Runs.{Opens, Deep, Follows, follows_then, follows_bind, follows_from, follows_same, follows_less, goes_on, Goes-shorter, Goes-no_longer}
 use Rattle.json_text.proofs.Parts.{here, behind_it, byte_goes, byte_stops, stops_here, stops_same, this_follows, word_follows, these_follows, behind_follows}
 use Rattle.json_text.proofs.NumberParts.{number_follows}
 use Rattle.json_text.proofs.TextParts.{quoted_follows}

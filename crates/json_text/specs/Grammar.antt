@@ -1,6 +1,6 @@
 -- The grammar of JSON (RFC 8259), over bytes that are UTF-8. An escape of a surrogate stands only as a high one directly
 -- followed by a low one.
-use Rattle.std.specs.Prelude.{◌<◌, ◌≤◌, ◌==◌, ◌&&◌, not, ℕ, zero, suc, codes, List, [], ◌∷◌, length, take}
+use Rattle.std.specs.Prelude.{◌==◌, ◌&&◌, not, ℕ, zero, suc, codes, List, [], ◌∷◌}
 use Rattle.std.specs.Char.{digit_value}
 use Rattle.std.specs.Int.{is_in_range}
 use Rattle.contract_words.specs.Grammar.{Rule, nothing, byte, alt, seq, many, viable}
@@ -77,18 +77,6 @@ value_rule (suc depth) = alt scalar_rule (alt (list_rule (value_rule depth)) (ob
 abbrev pub json : ℕ → Rule
 json depth = seq ws (seq (value_rule depth) ws)
 
--- the longest prefix of the text that is viable has this length
-pub record IsLongestViable (rule : Rule) (text : List ℕ) (count : ℕ) : Type 0 where
-  pub within : count ≤ length text
-  pub begun : viable rule (take count text)
-  pub no_longer : (more : ℕ) → count < more → more ≤ length text → viable rule (take more text) → ⊥
-
 -- the text is a viable prefix of JSON, however deep that nests
 abbrev pub IsJsonPrefix : List ℕ → Type 0
 IsJsonPrefix text = (depth : ℕ) × viable (json depth) text
-
--- the longest prefix of the text that is viable, however deep, has this length
-pub record IsLongestPrefix (text : List ℕ) (count : ℕ) : Type 0 where
-  pub within : count ≤ length text
-  pub begun : IsJsonPrefix (take count text)
-  pub no_longer : (more : ℕ) → count < more → more ≤ length text → IsJsonPrefix (take more text) → ⊥

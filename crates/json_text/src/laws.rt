@@ -3,9 +3,10 @@
 ghost use Rattle.std.specs.Prelude.{◌≡◌, ◌<◌, ◌≤◌, ℕ, suc, List, IsOk, Ok, Err};
 ghost use Rattle.std.specs.List.{All};
 ghost use Rattle.std.specs.Str.{IsUtf8};
-ghost use Rattle.contract_words.specs.Grammar.{spells};
+ghost use Rattle.contract_words.specs.Fronts.{IsLongest};
+ghost use Rattle.contract_words.specs.Grammar.{spells, viable};
 ghost use Rattle.pdata_value.specs.Numeral.{IsNumeral};
-ghost use Rattle.json_text.specs.Grammar.{json, IsLongestViable, IsLongestPrefix};
+ghost use Rattle.json_text.specs.Grammar.{json, IsJsonPrefix};
 ghost use Rattle.json_text.specs.Placed.{containers, placed};
 ghost use Rattle.json_text.specs.Reading.{json_text};
 ghost use Rattle.json_text.specs.Writing.{numbers_of, texts_of, text_of};
@@ -19,15 +20,15 @@ pub fn reading_is_the_grammar()
     ensures spelled_is_read { (bytes : List ℕ) (depth : ℕ) → IsUtf8 bytes → spells (json depth) bytes → IsOk (json_text bytes depth) }
 
     // BadJson stands at the end of the longest viable prefix, however deep that nests, and in each grammar at least as deep.
-    ensures bad_json { (bytes : List ℕ) (depth at : ℕ) → json_text bytes depth ≡ Err (BadJson at) → IsLongestPrefix bytes at }
+    ensures bad_json { (bytes : List ℕ) (depth at : ℕ) → json_text bytes depth ≡ Err (BadJson at) → IsLongest IsJsonPrefix bytes at }
     ensures bad_json_at_each_depth { (bytes : List ℕ) (depth at deeper : ℕ) → json_text bytes depth ≡ Err (BadJson at) → depth ≤ deeper
-        → IsLongestViable (json deeper) bytes at }
+        → IsLongest (viable (json deeper)) bytes at }
 
     // TooDeep stands there in the grammar as deep as allowed, and a deeper one goes on.
     ensures too_deep { (bytes : List ℕ) (depth at : ℕ) → json_text bytes depth ≡ Err (TooDeep at)
-        → IsLongestViable (json depth) bytes at }
+        → IsLongest (viable (json depth)) bytes at }
     ensures deeper_goes_on { (bytes : List ℕ) (depth at deeper : ℕ) → json_text bytes depth ≡ Err (TooDeep at) → depth < deeper
-        → (count : ℕ) × (at < count) × IsLongestViable (json deeper) bytes count }
+        → (count : ℕ) × (at < count) × IsLongest (viable (json deeper)) bytes count }
     ensures deeper_spells_more { (depth : ℕ) (text : List ℕ) → spells (json depth) text → spells (json (suc depth)) text }
 {}
 

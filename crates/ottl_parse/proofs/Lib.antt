@@ -1,2 +1,4 @@
 pub mod Turns
 pub mod Checks
+pub mod Printed
+pub mod Contents

@@ -3,3 +3,5 @@ pub mod Place
 pub mod Reading
 pub mod Checks
 pub mod Parsing
+-- How they are printed.
+pub mod Printing

@@ -7,6 +7,8 @@ mod expr;
 mod literal;
 mod parse;
 mod path;
+mod print;
+mod print_literal;
 mod reader;
 mod sign;
 mod statement;
@@ -14,5 +16,9 @@ mod statement;
 pub use expr::{Call, Compare, Expr, ExprKind, Exprs, MapPart, MapParts, Term, Terms};
 pub use parse::{parse_condition, parse_statement};
 pub use path::{Names, Path, PathKey, PathKeys};
+pub use print::print_statement;
 pub use sign::Sign;
 pub use statement::{Condition, Statement};
+
+#[cfg(test)]
+mod tests;

@@ -1,17 +1,11 @@
 -- What a row of rules spells is what it runs through.
 use Rattle.std.proofs.Common.{◌≡◌, ◌∙◌, ℕ, zero, suc, Bool, true, false, List, [], ◌∷◌, ◌++◌, Option, Some, None, refl, ap, sym, inl, inr, append_assoc, subst, cond}
-use Rattle.std.specs.Prelude.{◌⊎◌, ◌&&◌, ◌||◌}
+use Rattle.std.specs.Prelude.{◌⊎◌, ◌↔◌, ◌&&◌, ◌||◌}
 use Rattle.contract_words.specs.Grammar.{Rule, nothing, byte, alt, seq, many, Turns, spells, viable, nullable, first, after}
-use Rattle.contract_words.specs.Rows.{viable_row, row_first, fits, fits_row, step}
+use Rattle.contract_words.specs.Rows.{viable_row, spells_row, row_first, row_nullable, taken, run, fits, fits_row, step}
 use Rattle.contract_words.proofs.Viable.{spelled_viable}
 use Rattle.contract_words.proofs.Predictive.{nullable_of, first_of, row_first_of, or_l, or_r, and_l, and_r, and_both, false_or}
 use Rattle.contract_words.proofs.Longest.{empty_spelled, stays}
-use Rattle.json_text.proofs.Runs.{row_nullable, taken, run}
-
--- the rules spell the text, one after another
-abbrev pub spells_row : List Rule → List ℕ → Type 0
-spells_row [] text = text ≡ []
-spells_row (r ∷ rs) text = (x : List ℕ) × (y : List ℕ) × spells r x × spells_row rs y × (text ≡ x ++ y)
 
 row_viable : (rs : List Rule) (text : List ℕ) → spells_row rs text → viable_row rs text
 row_viable [] text h = h
@@ -190,3 +184,9 @@ run_on rs b text more (Some ss) n = more ss n.0 n.1
 pub run_of_spelled : (rs : List Rule) (text : List ℕ) → fits_row rs → spells_row rs text → (run rs text).1 ≡ true
 run_of_spelled rs [] f h = row_null rs h
 run_of_spelled rs (b ∷ text) f h = run_on rs b text (λ ss. run_of_spelled ss text) (step rs b) (next rs b text f h)
+
+-- the run ends well exactly on what is spelled
+pub spelled-run : (rs : List Rule) (text : List ℕ) → fits_row rs → spells_row rs text ↔ ((run rs text).1 ≡ true)
+spelled-run rs text f = (run_of_spelled rs text f, spelled_of_run rs text)
+
+pub ruleset runs = (spelled-run)
