@@ -108,4 +108,3 @@ pair_in levels = pair_by levels (value_in levels)
 -- a list of pairs, as `attributes` has it
 unfoldable pub pairs_in : ℕ → Reader Pairs
 pairs_in levels = pairs_by levels (value_in levels)
-

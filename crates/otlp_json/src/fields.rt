@@ -102,28 +102,44 @@ fn or_stop<T: Drop>(found: Option<T>, kind: PayloadKind, at: u32) -> Result<T, P
 pub(crate) fn u64_of(json: &Json) -> Result<u64, PayloadStop>
     ensures { Gives (λ n. n) fault_of result (spec.u64_in json.now) }
 {
-    or_stop(unsigned_of(spelled_of(json)?), PayloadKind::BadNumber, json.at)
+    or_stop(
+        unsigned_of(spelled_of(json)?),
+        PayloadKind::BadNumber,
+        json.at,
+    )
 }
 
 #[tactic(auto, unfolding(crate::specs::Fields::u32_in))]
 pub(crate) fn u32_of(json: &Json) -> Result<u32, PayloadStop>
     ensures { Gives (λ n. n) fault_of result (spec.u32_in json.now) }
 {
-    or_stop(small_unsigned_of(spelled_of(json)?), PayloadKind::BadNumber, json.at)
+    or_stop(
+        small_unsigned_of(spelled_of(json)?),
+        PayloadKind::BadNumber,
+        json.at,
+    )
 }
 
 #[tactic(auto, unfolding(crate::specs::Fields::i64_in))]
 pub(crate) fn i64_of(json: &Json) -> Result<i64, PayloadStop>
     ensures { Gives (λ n. n) fault_of result (spec.i64_in json.now) }
 {
-    or_stop(signed_of(spelled_of(json)?), PayloadKind::BadNumber, json.at)
+    or_stop(
+        signed_of(spelled_of(json)?),
+        PayloadKind::BadNumber,
+        json.at,
+    )
 }
 
 #[tactic(auto, unfolding(crate::specs::Fields::i32_in))]
 pub(crate) fn i32_of(json: &Json) -> Result<i32, PayloadStop>
     ensures { Gives (λ n. n) fault_of result (spec.i32_in json.now) }
 {
-    or_stop(small_signed_of(numeral_of(json)?), PayloadKind::BadNumber, json.at)
+    or_stop(
+        small_signed_of(numeral_of(json)?),
+        PayloadKind::BadNumber,
+        json.at,
+    )
 }
 
 // The bytes of an id; none are spelled where it is the empty one.

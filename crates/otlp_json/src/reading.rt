@@ -20,11 +20,7 @@ use std::alloc::Global;
 const CONTAINERS: u32 = 300;
 
 #[tactic(auto, unfolding(crate::specs::Trees::resources_in))]
-fn resources_of(
-    alloc: Global,
-    counts: &mut Counts,
-    json: &Json,
-) -> Result<Resources, PayloadStop>
+fn resources_of(alloc: Global, counts: &mut Counts, json: &Json) -> Result<Resources, PayloadStop>
     ensures { Gives (λ resources. (resources, counts.new)) fault_of result
         (resources_in json.now counts.old) }
 {

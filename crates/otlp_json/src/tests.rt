@@ -5,7 +5,8 @@ use std::alloc::{AllocError, Global};
 use std::process::Abort;
 use std::test::Fail;
 
-const BEFORE_RECORD: &str = r#"{"resourceLogs":[{"resource":{},"scopeLogs":[{"scope":{},"logRecords":["#;
+const BEFORE_RECORD: &str =
+    r#"{"resourceLogs":[{"resource":{},"scopeLogs":[{"scope":{},"logRecords":["#;
 
 const BEHIND_RECORD: &str = "]}]}]}";
 
@@ -48,10 +49,7 @@ fn records_are_written_in_their_one_form(rt: HostRuntime) -> Result<(), Fail> {
             r#"{"x":{"y":[1,{}]},"flags":[1],"flags":2}"#,
             r#"{"flags":2}"#,
         ),
-        (
-            r#"{"flags":2,"flags":null}"#,
-            r#"{}"#,
-        ),
+        (r#"{"flags":2,"flags":null}"#, r#"{}"#),
         (
             r#"{"\u0066lags":2,"severityText":"\u000a\u0000\/\u00e9"}"#,
             r#"{"severityText":"\n\u0000/é","flags":2}"#,
@@ -152,9 +150,15 @@ fn records_are_refused_at_the_value(rt: HostRuntime) -> Result<(), Fail> {
         (r#"{"attributes":[{"key":"k"},null]}"#, "WrongKind at 98"),
         (r#"{"attributes":[{"key":1}]}"#, "WrongKind at 93"),
         (r#"{"body":{"arrayValue":[]}}"#, "WrongKind at 93"),
-        (r#"{"body":{"kvlistValue":{"values":{}}}}"#, "WrongKind at 104"),
+        (
+            r#"{"body":{"kvlistValue":{"values":{}}}}"#,
+            "WrongKind at 104",
+        ),
         // Numbers.
-        (r#"{"body":{"intValue":9223372036854775808}}"#, "BadNumber at 91"),
+        (
+            r#"{"body":{"intValue":9223372036854775808}}"#,
+            "BadNumber at 91",
+        ),
         (r#"{"body":{"intValue":"1.0"}}"#, "BadNumber at 91"),
         (r#"{"body":{"intValue":1e3}}"#, "BadNumber at 91"),
         (r#"{"body":{"intValue":" 1"}}"#, "BadNumber at 91"),
@@ -162,19 +166,28 @@ fn records_are_refused_at_the_value(rt: HostRuntime) -> Result<(), Fail> {
         (r#"{"body":{"intValue":"+1"}}"#, "BadNumber at 91"),
         (r#"{"body":{"intValue":""}}"#, "BadNumber at 91"),
         (r#"{"body":{"doubleValue":"nan"}}"#, "BadNumber at 94"),
-        (r#"{"timeUnixNano":"18446744073709551616"}"#, "BadNumber at 87"),
+        (
+            r#"{"timeUnixNano":"18446744073709551616"}"#,
+            "BadNumber at 87",
+        ),
         (r#"{"timeUnixNano":-1}"#, "BadNumber at 87"),
         (r#"{"severityNumber":2147483648}"#, "BadNumber at 89"),
         (r#"{"flags":4294967296}"#, "BadNumber at 80"),
         // Ids and bytes.
-        (r#"{"traceId":"5B8EFFF798038103D269B633813FC60"}"#, "BadId at 82"),
+        (
+            r#"{"traceId":"5B8EFFF798038103D269B633813FC60"}"#,
+            "BadId at 82",
+        ),
         (r#"{"traceId":"eee19b7ec3c1b174"}"#, "BadId at 82"),
         (r#"{"spanId":"eee19b7ec3c1b17g"}"#, "BadId at 81"),
         (r#"{"body":{"bytesValue":"aGk"}}"#, "BadBase64 at 93"),
         (r#"{"body":{"bytesValue":"aGl="}}"#, "BadBase64 at 93"),
         (r#"{"body":{"bytesValue":"-_8="}}"#, "BadBase64 at 93"),
         // The first in the order of the text.
-        (r#"{"flags":-1,"body":{"boolValue":1},"traceId":"x"}"#, "BadNumber at 80"),
+        (
+            r#"{"flags":-1,"body":{"boolValue":1},"traceId":"x"}"#,
+            "BadNumber at 80",
+        ),
     ];
     for (record, fault) in table {
         let line = line_of(rt.alloc(), record)?;
@@ -188,7 +201,10 @@ fn records_are_refused_at_the_value(rt: HostRuntime) -> Result<(), Fail> {
 fn payloads_have_one_answer(rt: HostRuntime) -> Result<(), Fail> {
     let table: [(&[u8], &str); 21] = [
         (b"{}", r#"{"resourceLogs":[]}"#),
-        (b" { \"resourceLogs\" : null }\r\n", r#"{"resourceLogs":[]}"#),
+        (
+            b" { \"resourceLogs\" : null }\r\n",
+            r#"{"resourceLogs":[]}"#,
+        ),
         (
             br#"{"resourceLogs":[{"schemaUrl":"x"}]}"#,
             r#"{"resourceLogs":[{"resource":{},"schemaUrl":"x"}]}"#,
@@ -218,7 +234,10 @@ fn payloads_have_one_answer(rt: HostRuntime) -> Result<(), Fail> {
         (br#"{"resourceLogs":{}}"#, "WrongKind at 16"),
         (br#"{"resourceLogs":[[]]}"#, "WrongKind at 17"),
         (br#"{"resourceLogs":[{"resource":[]}]}"#, "WrongKind at 29"),
-        (br#"{"resourceLogs":[{"scopeLogs":[null]}]}"#, "WrongKind at 31"),
+        (
+            br#"{"resourceLogs":[{"scopeLogs":[null]}]}"#,
+            "WrongKind at 31",
+        ),
     ];
     for (line, wanted) in table {
         let found = answer(&rt, rt.alloc(), line)?;

@@ -11,7 +11,9 @@ mod members;
 mod values;
 
 use lists::{ToJson, push_list, push_list_member};
-use members::{push_i32_member, push_id_member, push_key, push_text_member, push_u32_member, push_u64_member};
+use members::{
+    push_i32_member, push_id_member, push_key, push_text_member, push_u32_member, push_u64_member,
+};
 use pdata_tree::{Batch, LogRecord, ResourceNode, ResourceTree, ScopeNode, ScopeTree};
 use pdata_value::{Pairs, Value};
 use std::alloc::{AllocError, Global};

@@ -132,12 +132,7 @@ fn push_digits(out: &mut Vec<u8>, id: &[u8]) -> Result<(), AllocError>
     Ok(())
 }
 
-fn push_id_bytes(
-    out: &mut Vec<u8>,
-    some: bool,
-    key: &str,
-    id: &[u8],
-) -> Result<bool, AllocError>
+fn push_id_bytes(out: &mut Vec<u8>, some: bool, key: &str, id: &[u8]) -> Result<bool, AllocError>
     requires plain { IsTrue (list_all is_plain key.now) }
     requires short { length id.now ≤ 16 }
     ensures { IfOk result (λ now. Adds (spec.id_member key.now id.now) some out.old.items now out.new.items) }
