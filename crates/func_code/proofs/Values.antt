@@ -9,14 +9,10 @@ use Rattle.pdata_value.specs.Pairs.{put_all}
 use Rattle.pdata_value.specs.declared.value.Value.{Value}
 use Rattle.pdata_value.specs.declared.value.Value.TheVariants as kind
 use Rattle.pdata_value.specs.Wanted.{list_of, map_of}
-use Rattle.func_code.specs.Json.{number_of, kind_step, json_step, value_of}
+use Rattle.func_code.specs.Json.{number_of, kind_step, json_step, value_of, member_of}
 
 unfoldable kind_value : JsonKind → Value
 kind_value = fold-JsonKind Value Value kind_step json_step
-
--- a member with its value
-abbrev pub member_of : List ℕ × Json → List ℕ × Value
-member_of m = (m.0, value_of m.1)
 
 of_kind : (json : Json) → value_of json ≡ kind_value json.kind
 unfolding value_of kind_value

@@ -57,4 +57,5 @@ json_or_bad (Err fault) = Err BadText
 
 abbrev pub parse_json_of : Value → Result Value EvalErr
 parse_json_of value =
-    text_in value >>= λ text. cond (nat_lt 16777216 (length text)) (Err Large) (json_or_bad (json_text text 64))
+    text_in value >>= λ text.
+    cond (nat_lt 16777216 (length text)) (Err Large) (json_or_bad (json_text text 64))

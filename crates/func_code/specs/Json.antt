@@ -32,3 +32,7 @@ json_step json = json.kind
 -- the value of a value of JSON
 unfoldable pub value_of : Json → Value
 value_of = fold-Json Value Value kind_step json_step
+
+-- a member with its value
+abbrev pub member_of : List ℕ × Json → List ℕ × Value
+member_of m = (m.0, value_of m.1)

@@ -3,6 +3,7 @@
 
 mod codes;
 mod digest;
+mod indexing;
 mod parsing;
 
 pub use codes::{decode, hex_text, sha256};

@@ -101,6 +101,39 @@ fn json_is_parsed(rt: HostRuntime) -> Result<(), Fail> {
     Ok(())
 }
 
+// An object of so many members, with the keys `k0` to `k19` one after another.
+fn members(alloc: Global, count: usize) -> Result<Value, Fail> {
+    let mut json = String::from_str(alloc, "{")?;
+    for i in 0..count {
+        let comma = if i == 0 { "" } else { "," };
+        let member = format!(in alloc; "{}\"k{}\":{}", comma, i % 20, i)?;
+        json.push_str(member.as_str())?;
+    }
+    json.push_str("}")?;
+    Ok(Value::Text(Text::from_string(json)))
+}
+
+#[test]
+fn members_of_large_objects_are_put_in_order(rt: HostRuntime) -> Result<(), Fail> {
+    let alloc = rt.alloc();
+    for (count, len, first, last) in [(16usize, 16, 0, 15), (20, 20, 0, 19), (50, 20, 40, 39)] {
+        let Ok(Value::Map(map)) = parse_json(alloc, &members(alloc, count)?) else {
+            return Err(Fail::from("no map"));
+        };
+        assert_eq!(rt; map.len(), len, "of {count}");
+        assert!(rt;
+            matches!(map.get("k0"), Some(Value::Int(n)) if *n == first),
+            "first of {count}"
+        );
+        let at_last = match map.as_slice().last() {
+            Some(pair) => note(alloc, Ok(pair.1.copy()?))?,
+            None => String::new(alloc),
+        };
+        assert_eq!(rt; at_last, format!(in alloc; "{}", last)?, "last of {count}");
+    }
+    Ok(())
+}
+
 // A text of so many brackets, closed again.
 fn nested(alloc: Global, depth: usize) -> Result<Value, Fail> {
     let mut json = String::new(alloc);

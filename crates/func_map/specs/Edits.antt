@@ -1,5 +1,5 @@
--- The editors, each as its row of the table of functions in docs/FUNCTIONS.md. An editor answers the target's new value, or
--- None where there is no action.
+-- The editors, each as its row of the table of functions in docs/FUNCTIONS.md. An editor answers the target's new
+-- value, or None where there is no action.
 use Rattle.std.specs.Prelude.{◌≡◌, ◌⊎◌, ℕ, not, cond, codes, List, [], filter, map, Option, Some, None, Result, Ok, Err}
 use Rattle.std.specs.Str.{bytes_eq}
 use Rattle.pdata_value.specs.Value.{pairs}
@@ -77,7 +77,9 @@ abbrev pub IsStrategy : List ℕ → Type 0
 IsStrategy text = (text ≡ codes "insert") ⊎ (text ≡ codes "update") ⊎ (text ≡ codes "upsert")
 
 abbrev pub strategy_of : List ℕ → Strategy
-strategy_of text = cond (bytes_eq text (codes "insert")) Insert (cond (bytes_eq text (codes "update")) Update Upsert)
+strategy_of text =
+    cond (bytes_eq text (codes "insert")) Insert
+    (cond (bytes_eq text (codes "update")) Update Upsert)
 
 abbrev pub or_empty : Option Entries → Entries
 or_empty None = []
@@ -93,8 +95,8 @@ merge_maps_of target other strategy =
     target_in target >>= λ old. other_layer (out-Value other)
     >>= λ qs. changed (made (map_of (merged (strategy_of strategy) (or_empty old) qs)))
 
--- replace_all_patterns: in the mode `value` all matches in each text of the map are replaced. In the mode `key` each pair,
--- in order, is put under its replaced key into an empty map.
+-- replace_all_patterns: in the mode `value` all matches in each text of the map are replaced. In the mode `key` each
+-- pair, in order, is put under its replaced key into an empty map.
 
 abbrev pub IsMode : List ℕ → Type 0
 IsMode text = (text ≡ codes "key") ⊎ (text ≡ codes "value")
@@ -114,5 +116,7 @@ all_replaced mode pattern template ps =
     cond (bytes_eq mode (codes "key")) (put_all [] (map (replaced_key pattern template) ps))
     (map (replaced_value pattern template) ps)
 
-abbrev pub replace_all_patterns_of : Value → List ℕ → List ℕ → List ℕ → Result (Option Value) EvalErr
-replace_all_patterns_of target mode pattern template = edited (all_replaced mode pattern template) target
+abbrev pub replace_all_patterns_of :
+    Value → List ℕ → List ℕ → List ℕ → Result (Option Value) EvalErr
+replace_all_patterns_of target mode pattern template =
+    edited (all_replaced mode pattern template) target

@@ -22,7 +22,8 @@ pub fn replace_all_patterns(
     template: &Text,
 ) -> Result<Option<Value>, EvalStop>
     requires { IsMode mode.now }
-    ensures { Answers result (replace_all_patterns_of target.now mode.now pattern.now template.now) }
+    ensures { Answers result
+        (replace_all_patterns_of target.now mode.now pattern.now template.now) }
 {
     let mut matcher = pattern.matcher(alloc)?;
     replace_all_patterns_with(alloc, target, mode, &mut matcher, template)
@@ -37,7 +38,8 @@ pub fn replace_all_patterns_with(
     template: &Text,
 ) -> Result<Option<Value>, EvalStop>
     requires { IsMode mode.now }
-    ensures answer { Answers result (replace_all_patterns_of target.now mode.now matcher.old template.now) }
+    ensures answer { Answers result
+        (replace_all_patterns_of target.now mode.now matcher.old template.now) }
     ensures same { matcher.new ≡ matcher.old }
 {
     match target_in(target)? {
@@ -56,7 +58,8 @@ fn all_replaced(
     matcher: &mut PatternMatcher<'_>,
     template: &Text,
 ) -> Result<Pairs, AllocError>
-    ensures value { IfOk result (λ new. pairs new ≡ all_replaced mode.now matcher.old template.now list.now) }
+    ensures value { IfOk result (λ new. pairs new
+        ≡ all_replaced mode.now matcher.old template.now list.now) }
     ensures same { matcher.new ≡ matcher.old }
 {
     if mode == "key" {
@@ -113,7 +116,8 @@ fn value_replaced(
     matcher: &mut PatternMatcher<'_>,
     template: &Text,
 ) -> Result<Value, AllocError>
-    ensures value { IfOk result (λ new. new ≡ replaced_in matcher.old template.now value.now (out-Value value.now)) }
+    ensures value { IfOk result (λ new. new
+        ≡ replaced_in matcher.old template.now value.now (out-Value value.now)) }
     ensures same { matcher.new ≡ matcher.old }
 {
     match value {

@@ -23,7 +23,8 @@ pub fn set(_target: &Value, value: &Value) -> Result<Option<Value>, EvalStop>
 
 /// The map that a target is; nil is none.
 pub(crate) fn target_in(target: &Value) -> Result<Option<&Pairs>, EvalStop>
-    ensures { Gives (λ map. option_map (λ map. pairs map.now) map) eval_fault result (target_in target.now) }
+    ensures { Gives (λ map. option_map (λ map. pairs map.now) map) eval_fault result
+        (target_in target.now) }
 {
     match target {
         Value::Empty => Ok(None),

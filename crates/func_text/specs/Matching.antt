@@ -28,7 +28,8 @@ is_match_of value pattern =
 -- ExtractPatterns: a map of the named groups of the first match.
 
 abbrev pub extract_patterns_of : Value → List ℕ → Result Value EvalErr
-extract_patterns_of value pattern = text_in value >>= λ text. made (map_of (named_groups pattern text))
+extract_patterns_of value pattern =
+    text_in value >>= λ text. made (map_of (named_groups pattern text))
 
 -- replace_pattern: all matches in a text are replaced. Another kind, or nil, means no action.
 
@@ -37,7 +38,8 @@ abbrev pub changed : Result Value EvalErr → Result (Option Value) EvalErr
 changed answer = answer >>= λ v. Ok (Some v)
 
 abbrev pub replaced_layer : List ℕ → List ℕ → Layer → Result (Option Value) EvalErr
-replaced_layer pattern template (Value-F.Text text) = changed (made (kind.Text (replaced pattern template text)))
+replaced_layer pattern template (Value-F.Text text) =
+    changed (made (kind.Text (replaced pattern template text)))
 replaced_layer pattern template _ = Ok None
 
 abbrev pub replace_pattern_of : Value → List ℕ → List ℕ → Result (Option Value) EvalErr

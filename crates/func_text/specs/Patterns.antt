@@ -24,7 +24,8 @@ by_pattern otherwise f (Some (re, names)) = f re names
 
 -- whether a text has a match
 abbrev pub has_match : List ℕ → List ℕ → Bool
-has_match source text = by_pattern false (λ re names. is_some (find_str re text 0)) (pattern_of source)
+has_match source text =
+    by_pattern false (λ re names. is_some (find_str re text 0)) (pattern_of source)
 
 -- what a template writes in the place of a match
 abbrev pub written_at : Names → List ℕ → List ℕ → Match → List ℕ
@@ -33,7 +34,8 @@ written_at names template text m = written_after names (group_bytes text m) temp
 -- the text with all matches replaced by what the template writes there
 abbrev pub replaced : List ℕ → List ℕ → List ℕ → List ℕ
 replaced source template text =
-    by_pattern text (λ re names. replaced_by (written_at names template text) text 0 (find_all_str re text))
+    by_pattern text
+    (λ re names. replaced_by (written_at names template text) text 0 (find_all_str re text))
     (pattern_of source)
 
 -- a pair of a group's name and of what it matched, where it has a name
@@ -53,4 +55,5 @@ groups_at names text (Some m) = named_from (group_bytes text m) 0 names
 
 -- the pairs of the named groups of the first match; a group that took no part is the empty text
 abbrev pub named_groups : List ℕ → List ℕ → List (List ℕ × Value)
-named_groups source text = by_pattern [] (λ re names. groups_at names text (find_str re text 0)) (pattern_of source)
+named_groups source text =
+    by_pattern [] (λ re names. groups_at names text (find_str re text 0)) (pattern_of source)

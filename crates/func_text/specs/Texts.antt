@@ -57,7 +57,8 @@ pieces separator text = pieces_after 0 separator text
 
 abbrev pub split_of : Value → List ℕ → Result Value EvalErr
 split_of value separator =
-    text_in value >>= λ text. cond (length separator == 0) (Err Range) (made (texts_of (pieces separator text)))
+    text_in value >>= λ text.
+    cond (length separator == 0) (Err Range) (made (texts_of (pieces separator text)))
 
 -- Substring: so many bytes of a text from a place on; Range where they are no part of it, or cut a character.
 
@@ -68,7 +69,8 @@ is_cut text i = not (nat_le 128 (slice_index text i) && nat_lt (slice_index text
 -- so many bytes from a place on, where they are a part of whole characters
 abbrev pub part_of : List ℕ → ℤ → ℤ → Option (List ℕ)
 part_of text (pos start) (pos count) =
-    cond (nat_lt 0 count && nat_le (start + count) (length text) && is_cut text start && is_cut text (start + count))
+    cond (nat_lt 0 count && nat_le (start + count) (length text)
+    && is_cut text start && is_cut text (start + count))
     (Some (slice_range text start (start + count))) None
 part_of text _ _ = None
 
@@ -78,7 +80,8 @@ part_or_range (Some part) = made (kind.Text part)
 
 abbrev pub substring_of : Value → Value → Value → Result Value EvalErr
 substring_of value start count =
-    text_in value >>= λ text. int_in start >>= λ from. int_in count >>= λ many. part_or_range (part_of text from many)
+    text_in value >>= λ text. int_in start >>= λ from. int_in count >>= λ many.
+    part_or_range (part_of text from many)
 
 -- Len: the bytes of a text or of bytes, the elements of a list, the pairs of a map.
 

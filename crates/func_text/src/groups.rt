@@ -13,7 +13,8 @@ use std::alloc::{AllocError, Global};
 
 // What the group matched, or nothing.
 fn held_by(alloc: Global, captures: &Captures<'_, '_>, index: usize) -> Result<Text, AllocError>
-    ensures { IfOk result (λ held. held ≡ bytes_of (captures_haystack captures.now) (captures_span captures.now index)) }
+    ensures { IfOk result (λ held. held
+        ≡ bytes_of (captures_haystack captures.now) (captures_span captures.now index)) }
 {
     match captures.get(index) {
         Some(found) => Text::from_str(alloc, found.as_str()),

@@ -21,7 +21,8 @@ pub fn concat(alloc: Global, list: &Value, separator: &Text) -> Result<Value, Ev
 }
 
 fn joined(alloc: Global, values: &[Value], separator: &str) -> Result<String, EvalStop>
-    ensures { Gives (λ text. string_bytes text) eval_fault result (joined_of separator.now values.now) }
+    ensures { Gives (λ text. string_bytes text) eval_fault result
+        (joined_of separator.now values.now) }
 {
     let mut text = String::new(alloc);
     if let [first, rest @ ..] = values {

@@ -60,7 +60,8 @@ impl<'p> PatternMatcher<'p> {
         text: &str,
         template: &str,
     ) -> Result<String, AllocError>
-        ensures replaced { IfOk result (λ out. string_bytes out ≡ replaced self.old template.now text.now) }
+        ensures replaced { IfOk result (λ out. string_bytes out
+            ≡ replaced self.old template.now text.now) }
         ensures same { self.new ≡ self.old }
     {
         let template = Template::new(alloc, self.regex.capture_names(), template)?;

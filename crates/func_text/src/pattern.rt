@@ -67,7 +67,8 @@ pub trait PatternMaker {
     fn make(&mut self, alloc: Global, text: &str) -> Result<Pattern, MakeStop>
         ensures text { IfOk result (λ pattern. pattern ≡ text.now) }
         ensures read { OnOk result (IsSome (pattern_of text.now)) }
-        ensures syntax { IfErr result (λ stop. stop ≡ MakeStop.Syntax → pattern_of text.now ≡ None) }
+        ensures syntax { IfErr result (λ stop. stop ≡ MakeStop.Syntax
+            → pattern_of text.now ≡ None) }
         ensures size { IfErr result (λ stop. stop ≡ MakeStop.Size
             → IsSome (pattern_of text.now) × Rose (refusals self.old) (refusals self.new)) }
 

@@ -23,7 +23,8 @@ pub fn split(alloc: Global, value: &Value, separator: &Text) -> Result<Value, Ev
 
 fn pieces(alloc: Global, separator: &str, text: &str) -> Result<Values, AllocError>
     requires { 0 < length separator.now }
-    ensures { IfOk result (λ list. items list ≡ map (λ piece. kind.Text piece) (pieces separator.now text.now)) }
+    ensures { IfOk result (λ list. items list
+        ≡ map (λ piece. kind.Text piece) (pieces separator.now text.now)) }
 {
     let mut list = Values::new(alloc);
     let mut rest = text;

@@ -68,20 +68,23 @@ ranged n = if in_64_bits n then Ok n else Err Range
 abbrev pub civil_moment : ℤ → ℕ → ℕ → ℕ → ℕ → ℕ → Result ℤ EvalErr
 civil_moment y m d h mi s =
     if is_date y m d && is_time h mi s
-    then ranged (days_from_civil y m d *ℤ pos 86_400_000_000_000 +ℤ pos ((h * 3600 + mi * 60 + s) * 1_000_000_000))
+    then ranged (days_from_civil y m d *ℤ pos 86_400_000_000_000
+    +ℤ pos ((h * 3600 + mi * 60 + s) * 1_000_000_000))
     else Err BadText
 
 -- the moment of the parts of a text
 abbrev pub moment_of : Parts → Result ℤ EvalErr
 moment_of p =
-    match_some p.year (Err BadText) (λ y. match_some p.month (Err BadText) (λ m. match_some p.day (Err BadText) (λ d.
-    match_some p.hour (Err BadText) (λ h. match_some p.minute (Err BadText) (λ mi. match_some p.second (Err BadText) (λ s.
+    match_some p.year (Err BadText) (λ y. match_some p.month (Err BadText) (λ m.
+    match_some p.day (Err BadText) (λ d. match_some p.hour (Err BadText) (λ h.
+    match_some p.minute (Err BadText) (λ mi. match_some p.second (Err BadText) (λ s.
     civil_moment y m d h mi s))))))
 
--- the moment of a text under a format, once both are complete; a text that the format doesn't read is BadText
+-- the moment of a text under a format, once both are complete; what the format doesn't read is BadText
 unfoldable pub moment_in : List ℕ → List ℕ → Result ℤ EvalErr
 moment_in text format =
-    match_result (parse_text (full_format format) (full_text format text)) moment_of (λ e. Err BadText)
+    match_result (parse_text (full_format format) (full_text format text))
+    moment_of (λ e. Err BadText)
 
 -- what a directive shows of these parts, as jiff pads a number
 abbrev pub letter_text : ℤ → ℕ → ℕ → ℕ → ℕ → ℕ → ℕ → List ℕ
@@ -98,9 +101,13 @@ letter_text y m d h mi s letter =
 unfoldable pub text_from : Bool → (ℕ → List ℕ) → List ℕ → List ℕ
 text_from after shows [] = []
 text_from true shows (b ∷ rest) = shows b ++ text_from false shows rest
-text_from false shows (b ∷ rest) = if b == 37 then text_from true shows rest else b ∷ text_from false shows rest
+text_from false shows (b ∷ rest) =
+    if b == 37 then text_from true shows rest else b ∷ text_from false shows rest
 
 -- what a format shows of a moment
 unfoldable pub time_text : ℤ → List ℕ → List ℕ
 time_text n format =
-    text_from false (letter_text (civil_year n) (civil_month n) (civil_day n) (clock_hour n) (clock_minute n) (clock_second n)) format
+    text_from false
+    (letter_text (civil_year n) (civil_month n) (civil_day n)
+    (clock_hour n) (clock_minute n) (clock_second n))
+    format

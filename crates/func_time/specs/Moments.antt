@@ -20,7 +20,8 @@ year_walk (suc fuel) y n =
 unfoldable pub month_walk : ℕ → ℤ → ℕ → ℕ → ℕ × ℕ
 month_walk zero y m n = (m, n + 1)
 month_walk (suc fuel) y m n =
-    if nat_lt n (days_in_month y m) then (m, n + 1) else month_walk fuel y (m + 1) (n - days_in_month y m)
+    if nat_lt n (days_in_month y m) then (m, n + 1)
+    else month_walk fuel y (m + 1) (n - days_in_month y m)
 
 -- the year of a day, and the day's place in it, from 0
 unfoldable pub year_and_place : ℤ → ℤ × ℕ

@@ -1,5 +1,5 @@
--- The functions on times, each as its row of the table of functions in docs/FUNCTIONS.md. A time is an integer of nanoseconds
--- since 1970-01-01T00:00:00 in UTC.
+-- The functions on times, each as its row of the table of functions in docs/FUNCTIONS.md. A time is an integer of
+-- nanoseconds since 1970-01-01T00:00:00 in UTC.
 use Rattle.std.specs.Prelude.{ℕ, ℤ, pos, ◌+ℤ◌, ◌*ℤ◌, cond, List, Result, Ok, Err}
 use Rattle.std.specs.Int.{int_div_euclid}
 use Rattle.pdata_value.specs.declared.error.EvalErr.{EvalErr}
@@ -14,7 +14,8 @@ use Rattle.func_time.specs.Moments.{civil_year, civil_month, civil_day, clock_ho
 
 -- Time: the moment of a text under a format.
 abbrev pub time_of : Value → List ℕ → Result Value EvalErr
-time_of value format = text_in value >>= λ text. moment_in text format >>= λ moment. Ok (kind.Int moment)
+time_of value format =
+    text_in value >>= λ text. moment_in text format >>= λ moment. Ok (kind.Int moment)
 
 -- FormatTime: what a format shows of a time.
 abbrev pub format_time_of : Value → List ℕ → Result Value EvalErr

@@ -11,8 +11,9 @@ ghost use Rattle.func_time.specs.Formats.{is_format, full_format, full_text, mom
 
 /// The moment of a text is that of the date and time which `jiff` makes of the parts that it reads.
 pub fn moments_are_those_of_dates_and_times()
-    ensures { (format text : List ℕ) (parts : BrokenDownTime) (date : DateTime) (hour minute second : ℕ)
-        → is_format format ≡ true → parse_text (full_format format) (full_text format text) ≡ Ok (parts_of parts)
+    ensures { (format text : List ℕ) (parts : BrokenDownTime) (date : DateTime)
+        (hour minute second : ℕ) → is_format format ≡ true
+        → parse_text (full_format format) (full_text format text) ≡ Ok (parts_of parts)
         → parts.hour ≡ Some hour → parts.minute ≡ Some minute → parts.second ≡ Some second
         → IsDateTimeOf parts date → moment_in text format ≡ ranged (civil_nanos date) }
 {}

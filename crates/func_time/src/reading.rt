@@ -95,7 +95,8 @@ fn date_at(year: i16, month: u8, day: u8) -> Option<Date>
 // The time, if a clock shows it.
 fn time_at(hour: u8, minute: u8, second: u8) -> Option<Time>
     ensures value { IfSome result
-        (λ t. (t.hour ≡ hour) × (t.minute ≡ minute) × (t.second ≡ second) × (t.subsec_nanosecond ≡ 0)) }
+        (λ t. (t.hour ≡ hour) × (t.minute ≡ minute) × (t.second ≡ second)
+        × (t.subsec_nanosecond ≡ 0)) }
     ensures found { is_some result ≡ is_time hour minute second }
 {
     if hour > 23 || minute > 59 || second > 59 {

@@ -1,5 +1,5 @@
 -- Arguments of a kind, and values that are made.
-use Rattle.std.specs.Prelude.{ℕ, ℤ, ◌&&◌, nat_le, cond, List, map, Result, Ok, Err}
+use Rattle.std.specs.Prelude.{ℕ, ℤ, Bool, ◌&&◌, nat_le, cond, List, map, Result, Ok, Err}
 use Rattle.pdata_value.specs.Value.{items}
 use Rattle.pdata_value.specs.Measure.{depth, weight}
 use Rattle.pdata_value.specs.declared.error.EvalErr.{EvalErr}
@@ -47,9 +47,13 @@ list_layer other = not_wanted other
 abbrev pub list_in : Value → Result (List Value) EvalErr
 list_in v = list_layer (out-Value v)
 
+-- no deeper and no heavier than is allowed
+abbrev pub fits : Value → Bool
+fits v = nat_le (depth v) 64 && nat_le (weight v) 16777216
+
 -- a value that is made: one that doesn't fit is Large
 abbrev pub made : Value → Result Value EvalErr
-made v = cond (nat_le (depth v) 64 && nat_le (weight v) 16777216) (Ok v) (Err Large)
+made v = cond (fits v) (Ok v) (Err Large)
 
 -- the list of these values
 abbrev pub list_of : List Value → Value
