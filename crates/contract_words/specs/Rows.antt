@@ -2,14 +2,17 @@
 use Rattle.std.specs.Prelude.{◌≡◌, ◌∷◌, ◌++◌, [], ◌&&◌, ◌||◌, ℕ, suc, Bool, true, false, List, Option, Some, None, ◌⊎◌, if◌then◌else◌}
 use Rattle.contract_words.specs.Grammar.{Rule, nothing, byte, alt, seq, many, spells, viable, nullable, first, after}
 
+-- a viable prefix of rules in a row
 abbrev pub viable_row : List Rule → List ℕ → Type 0
 viable_row [] text = text ≡ []
 viable_row (r ∷ rs) text = viable r text ⊎ ((x : List ℕ) × (y : List ℕ) × spells r x × viable_row rs y × (text ≡ x ++ y))
 
+-- whether a byte may be the first of what rules in a row spell
 abbrev pub row_first : List Rule → ℕ → Bool
 row_first [] b = false
 row_first (r ∷ rs) b = first r b || (nullable r && row_first rs b)
 
+-- no byte passes both tests
 abbrev pub Apart : (ℕ → Bool) → (ℕ → Bool) → Type 0
 Apart p q = (b : ℕ) → p b ≡ true → q b ≡ true → ⊥
 
@@ -25,6 +28,7 @@ fits (seq l r) next =
     × (nullable r ≡ true → Apart (first r) next)
 fits (many a) next = (nullable a ≡ false) × fits a (λ b. first a b || next b) × Apart (first a) next
 
+-- each rule of a row can be told from what follows it by one byte
 abbrev pub fits_row : List Rule → Type 0
 fits_row [] = Unit {0}
 fits_row (r ∷ rs) = fits r (row_first rs) × (nullable r ≡ true → Apart (first r) (row_first rs)) × fits_row rs
@@ -39,6 +43,7 @@ abbrev pub one_more : Option (List Rule) → (List Rule → ℕ) → ℕ
 one_more None f = 0
 one_more (Some rs) f = suc (f rs)
 
+-- how far a row goes on a text before no rule takes the next byte
 abbrev pub stop : List Rule → List ℕ → ℕ
 stop rs [] = 0
 stop rs (b ∷ text) = one_more (step rs b) (λ ss. stop ss text)
@@ -58,6 +63,7 @@ abbrev pub taken : Option (List Rule) → (List Rule → ℕ × Bool) → ℕ ×
 taken None f = (0, false)
 taken (Some rs) f = (suc (f rs).0, (f rs).1)
 
+-- how far a row goes on a text, and whether it may end there
 abbrev pub run : List Rule → List ℕ → ℕ × Bool
 run rs [] = (0, row_nullable rs)
 run rs (b ∷ text) = taken (step rs b) (λ ss. run ss text)

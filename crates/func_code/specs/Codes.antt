@@ -24,6 +24,7 @@ bytes_layer (Value-F.Text text) = Ok text
 bytes_layer (Value-F.Bytes bytes) = Ok bytes
 bytes_layer other = not_wanted other
 
+-- the bytes that are wanted: those of a text or of bytes
 abbrev pub bytes_in : Value → Result (List ℕ) EvalErr
 bytes_in v = bytes_layer (out-Value v)
 
@@ -41,20 +42,24 @@ hex_text_of value = bytes_in value >>= λ bytes. made (kind.Text (encode_lower b
 abbrev pub text_of_bytes : List ℕ → Result Value EvalErr
 text_of_bytes bytes = cond (is_utf8 bytes) (made (kind.Text bytes)) (Err BadText)
 
+-- decoded bytes as a text, where they are one and it fits
 abbrev pub text_or_bad : Result (List ℕ) DecodeError → Result Value EvalErr
 text_or_bad (Ok bytes) = text_of_bytes bytes
 text_or_bad (Err e) = Err BadText
 
+-- Decode, as a whole: M is `base64`
 abbrev pub decode_of : Value → List ℕ → Result Value EvalErr
 decode_of value mode = text_in value >>= λ text. text_or_bad (base64_bytes standard text)
 
 -- ParseJSON: the value of a text of JSON. A text past 16,777,216 bytes is Large; one that is no JSON of at most 64
 -- containers deep is BadText.
 
+-- a text of JSON as a value, where it is one and fits
 abbrev pub json_or_bad : Result Json JsonFault → Result Value EvalErr
 json_or_bad (Ok json) = made (value_of json)
 json_or_bad (Err fault) = Err BadText
 
+-- ParseJSON, as a whole
 abbrev pub parse_json_of : Value → Result Value EvalErr
 parse_json_of value =
     text_in value >>= λ text.

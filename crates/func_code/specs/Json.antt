@@ -9,6 +9,7 @@ use Rattle.pdata_value.specs.declared.value.Value.TheVariants as kind
 use Rattle.func_text.specs.Texts.{spelled_int}
 use Rattle.pdata_value.specs.Wanted.{list_of, map_of}
 
+-- a numeral as the integer that it spells, or as a double by its spelling
 abbrev pub int_or_double : List ℕ → Option ℤ → Value
 int_or_double numeral None = kind.Double numeral
 int_or_double numeral (Some int) = kind.Int int
@@ -26,6 +27,7 @@ kind_step (JsonKind-F.Text text) = kind.Text text
 kind_step (JsonKind-F.List values) = list_of values
 kind_step (JsonKind-F.Object members) = map_of (put_all [] members)
 
+-- a value of JSON is what its kind stands for
 abbrev pub json_step : Json-F Value Value → Value
 json_step json = json.kind
 

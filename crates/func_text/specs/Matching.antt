@@ -17,16 +17,19 @@ abbrev pub searched_layer : Layer → Result (Option (List ℕ)) EvalErr
 searched_layer (Value-F.Bytes bytes) = Err KindOf
 searched_layer other = shown_layer other
 
+-- whether a text has a match; no text has none
 abbrev pub match_in : List ℕ → Option (List ℕ) → Bool
 match_in pattern None = false
 match_in pattern (Some text) = has_match pattern text
 
+-- IsMatch, as a whole
 abbrev pub is_match_of : Value → List ℕ → Result Value EvalErr
 is_match_of value pattern =
     searched_layer (out-Value value) >>= λ text. Ok (kind.Truth (match_in pattern text))
 
 -- ExtractPatterns: a map of the named groups of the first match.
 
+-- ExtractPatterns, as a whole
 abbrev pub extract_patterns_of : Value → List ℕ → Result Value EvalErr
 extract_patterns_of value pattern =
     text_in value >>= λ text. made (map_of (named_groups pattern text))
@@ -37,10 +40,12 @@ extract_patterns_of value pattern =
 abbrev pub changed : Result Value EvalErr → Result (Option Value) EvalErr
 changed answer = answer >>= λ v. Ok (Some v)
 
+-- a text with its matches replaced, by kind; another kind is no action
 abbrev pub replaced_layer : List ℕ → List ℕ → Layer → Result (Option Value) EvalErr
 replaced_layer pattern template (Value-F.Text text) =
     changed (made (kind.Text (replaced pattern template text)))
 replaced_layer pattern template _ = Ok None
 
+-- replace_pattern, as a whole
 abbrev pub replace_pattern_of : Value → List ℕ → List ℕ → Result (Option Value) EvalErr
 replace_pattern_of target pattern template = replaced_layer pattern template (out-Value target)

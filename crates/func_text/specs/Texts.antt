@@ -26,16 +26,19 @@ abbrev pub each_after : List ℕ → List (List ℕ) → List ℕ
 each_after separator [] = []
 each_after separator (t ∷ ts) = separator ++ t ++ each_after separator ts
 
+-- texts with the separator between them
 abbrev pub joined : List ℕ → List (List ℕ) → List ℕ
 joined separator [] = []
 joined separator (t ∷ ts) = t ++ each_after separator ts
 
+-- Concat, as a whole
 abbrev pub concat_of : Value → List ℕ → Result Value EvalErr
 concat_of list separator =
     list_in list >>= λ vs. all_shown vs >>= λ texts. made (kind.Text (joined separator texts))
 
 -- Split: the pieces between the occurrences of a separator, found from left to right. An empty separator is Range.
 
+-- whether a text begins with the separator
 abbrev pub starts_with : List ℕ → List ℕ → Bool
 starts_with separator text = bytes_eq (take (length separator) text) separator
 
@@ -52,9 +55,11 @@ pieces_after zero separator (b ∷ bs) =
     cond (starts_with separator (b ∷ bs)) ([] ∷ pieces_after (length separator - 1) separator bs)
     (before_first b (pieces_after zero separator bs))
 
+-- the pieces between the occurrences of a separator
 abbrev pub pieces : List ℕ → List ℕ → List (List ℕ)
 pieces separator text = pieces_after 0 separator text
 
+-- Split, as a whole
 abbrev pub split_of : Value → List ℕ → Result Value EvalErr
 split_of value separator =
     text_in value >>= λ text.
@@ -74,10 +79,12 @@ part_of text (pos start) (pos count) =
     (Some (slice_range text start (start + count))) None
 part_of text _ _ = None
 
+-- a part as a value, or Range where there is none
 abbrev pub part_or_range : Option (List ℕ) → Result Value EvalErr
 part_or_range None = Err Range
 part_or_range (Some part) = made (kind.Text part)
 
+-- Substring, as a whole
 abbrev pub substring_of : Value → Value → Value → Result Value EvalErr
 substring_of value start count =
     text_in value >>= λ text. int_in start >>= λ from. int_in count >>= λ many.
@@ -85,6 +92,7 @@ substring_of value start count =
 
 -- Len: the bytes of a text or of bytes, the elements of a list, the pairs of a map.
 
+-- the length of a value, by kind
 abbrev pub len_layer : Layer → Result Value EvalErr
 len_layer (Value-F.Text text) = Ok (kind.Int (pos (length text)))
 len_layer (Value-F.Bytes bytes) = Ok (kind.Int (pos (length bytes)))
@@ -92,15 +100,18 @@ len_layer (Value-F.List list) = Ok (kind.Int (pos (length (items list))))
 len_layer (Value-F.Map map) = Ok (kind.Int (pos (length (pairs map))))
 len_layer other = not_wanted other
 
+-- Len, as a whole
 abbrev pub len_of : Value → Result Value EvalErr
 len_of value = len_layer (out-Value value)
 
 -- Int: an integer itself, a truth as 1 or 0, a text of an optional sign and decimal digits as that number; nil and
 -- another text are nil.
 
+-- one decimal digit or more
 abbrev pub are_digits : List ℕ → Bool
 are_digits ds = nat_lt 0 (length ds) && list_all (λ b. nat_lt (digit_value b) 10) ds
 
+-- whether an integer is within 64 bits signed
 abbrev pub in_64_bits : ℤ → Bool
 in_64_bits n = int_le (neg_ℤ (pos 9223372036854775808)) n && int_le n (pos 9223372036854775807)
 
@@ -110,14 +121,17 @@ spelled_int text =
     cond (are_digits (without_leading_sign text) && in_64_bits (signed_digits_value 10 text))
     (Some (signed_digits_value 10 text)) None
 
+-- an integer as a value, or nil
 abbrev pub int_or_nil : Option ℤ → Value
 int_or_nil None = kind.Empty
 int_or_nil (Some int) = kind.Int int
 
+-- a truth as 1 or 0
 abbrev pub truth_int : Bool → ℤ
 truth_int true = pos 1
 truth_int false = pos 0
 
+-- the integer that a value stands for, by kind
 abbrev pub int_of_layer : Layer → Result Value EvalErr
 int_of_layer Value-F.Empty = Ok kind.Empty
 int_of_layer (Value-F.Int int) = Ok (kind.Int int)
@@ -125,5 +139,6 @@ int_of_layer (Value-F.Truth truth) = Ok (kind.Int (truth_int truth))
 int_of_layer (Value-F.Text text) = Ok (int_or_nil (spelled_int text))
 int_of_layer other = not_wanted other
 
+-- Int, as a whole
 abbrev pub int_of : Value → Result Value EvalErr
 int_of value = int_of_layer (out-Value value)

@@ -7,6 +7,7 @@ use Rattle.jiff_core.specs.Calendar.{days_in_year, days_in_month, weekday_number
 unfoldable pub day_of : ℤ → ℤ
 day_of n = int_div_euclid n (pos 86_400_000_000_000)
 
+-- the nanoseconds of a moment since its midnight
 unfoldable pub since_midnight : ℤ → ℕ
 since_midnight n = unsigned_abs (int_rem_euclid n (pos 86_400_000_000_000))
 
@@ -31,24 +32,31 @@ year_and_place day = year_walk 19_999 (neg_ℤ (pos 9999)) (unsigned_abs (day +�
 unfoldable pub month_and_day : ℤ → ℕ × ℕ
 month_and_day day = month_walk 12 (year_and_place day).0 1 (year_and_place day).1
 
+-- the year of a moment
 abbrev pub civil_year : ℤ → ℤ
 civil_year n = (year_and_place (day_of n)).0
 
+-- the month of a moment, from 1
 abbrev pub civil_month : ℤ → ℕ
 civil_month n = (month_and_day (day_of n)).0
 
+-- the day of the month of a moment, from 1
 abbrev pub civil_day : ℤ → ℕ
 civil_day n = (month_and_day (day_of n)).1
 
+-- the hour of a moment
 abbrev pub clock_hour : ℤ → ℕ
 clock_hour n = since_midnight n / 3_600_000_000_000
 
+-- the minute of a moment within its hour
 abbrev pub clock_minute : ℤ → ℕ
 clock_minute n = since_midnight n / 60_000_000_000 % 60
 
+-- the second of a moment within its minute
 abbrev pub clock_second : ℤ → ℕ
 clock_second n = since_midnight n / 1_000_000_000 % 60
 
+-- the nanosecond of a moment within its second
 abbrev pub clock_nanosecond : ℤ → ℕ
 clock_nanosecond n = since_midnight n % 1_000_000_000
 

@@ -23,9 +23,11 @@ format_time_of value format = int_in value >>= λ moment. made (kind.Text (time_
 
 -- Unix: the time of seconds and nanoseconds; Overflow past 64 bits signed.
 
+-- a sum as a value, where it is within 64 bits signed
 abbrev pub summed : ℤ → Result Value EvalErr
 summed n = cond (in_64_bits n) (Ok (kind.Int n)) (Err Overflow)
 
+-- Unix, as a whole
 abbrev pub unix_of : Value → Value → Result Value EvalErr
 unix_of seconds nanoseconds =
     int_in seconds >>= λ s. int_in nanoseconds >>= λ n. summed (s *ℤ pos 1000000000 +ℤ n)
@@ -36,41 +38,53 @@ unix_of seconds nanoseconds =
 abbrev pub computed : (ℤ → ℤ) → Value → Result Value EvalErr
 computed f value = int_in value >>= λ moment. Ok (kind.Int (f moment))
 
+-- nanoseconds in units of so many, rounded down
 abbrev pub in_units : ℕ → ℤ → ℤ
 in_units unit moment = int_div_euclid moment (pos unit)
 
+-- UnixSeconds
 abbrev pub unix_seconds_of : Value → Result Value EvalErr
 unix_seconds_of value = computed (in_units 1000000000) value
 
+-- UnixMilli
 abbrev pub unix_milli_of : Value → Result Value EvalErr
 unix_milli_of value = computed (in_units 1000000) value
 
+-- UnixMicro
 abbrev pub unix_micro_of : Value → Result Value EvalErr
 unix_micro_of value = computed (in_units 1000) value
 
+-- UnixNano
 abbrev pub unix_nano_of : Value → Result Value EvalErr
 unix_nano_of value = computed (λ moment. moment) value
 
 -- Year, Month, Day, Hour, Minute, Second, Nanosecond and Weekday: a part of a time in UTC.
 
+-- Year
 abbrev pub year_of : Value → Result Value EvalErr
 year_of value = computed civil_year value
 
+-- Month
 abbrev pub month_of : Value → Result Value EvalErr
 month_of value = computed (λ moment. pos (civil_month moment)) value
 
+-- Day
 abbrev pub day_of : Value → Result Value EvalErr
 day_of value = computed (λ moment. pos (civil_day moment)) value
 
+-- Hour
 abbrev pub hour_of : Value → Result Value EvalErr
 hour_of value = computed (λ moment. pos (clock_hour moment)) value
 
+-- Minute
 abbrev pub minute_of : Value → Result Value EvalErr
 minute_of value = computed (λ moment. pos (clock_minute moment)) value
 
+-- Second
 abbrev pub second_of : Value → Result Value EvalErr
 second_of value = computed (λ moment. pos (clock_second moment)) value
 
+-- Nanosecond
 abbrev pub nanosecond_of : Value → Result Value EvalErr
 nanosecond_of value = computed (λ moment. pos (clock_nanosecond moment)) value
 

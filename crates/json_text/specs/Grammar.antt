@@ -12,6 +12,7 @@ use Rattle.json_text.specs.Reading.{is_plain, is_short}
 abbrev pub one : ℕ → Rule
 one c = byte (λ b. b == c)
 
+-- blanks, none included
 abbrev pub ws : Rule
 ws = many (byte is_blank)
 
@@ -24,6 +25,7 @@ word_rule (b ∷ bs) = seq (one b) (word_rule bs)
 abbrev pub hex_rule : ℕ → ℕ → Rule
 hex_rule low high = byte (λ b. is_in_range low high (digit_value b))
 
+-- two hexadecimal digits
 abbrev pub two_digits : Rule
 two_digits = seq (hex_rule 0 15) (hex_rule 0 15)
 
@@ -40,15 +42,19 @@ abbrev pub unit_rule : Rule
 unit_rule = alt (seq (byte (λ b. is_in_range 0 15 (digit_value b) && not (digit_value b == 13))) (seq (hex_rule 0 15) two_digits))
     (seq (hex_rule 13 13) behind_d)
 
+-- what may follow a backslash
 abbrev pub escape_rule : Rule
 escape_rule = alt (byte is_short) (seq (one 117) unit_rule)
 
+-- a character that stands for itself, or an escape
 abbrev pub piece_rule : Rule
 piece_rule = alt (byte is_plain) (seq (one 92) escape_rule)
 
+-- a text with its quotes
 abbrev pub text_rule : Rule
 text_rule = seq (one 34) (seq (many piece_rule) (one 34))
 
+-- a value that is no container
 abbrev pub scalar_rule : Rule
 scalar_rule = alt text_rule (alt numeral (alt (word_rule (codes "true")) (alt (word_rule (codes "false")) (word_rule (codes "null")))))
 
@@ -56,15 +62,19 @@ scalar_rule = alt text_rule (alt numeral (alt (word_rule (codes "true")) (alt (w
 abbrev pub comma_rule : Rule → Rule
 comma_rule element = seq (one 44) (seq ws (seq element ws))
 
+-- items with commas between them, up to a closing byte
 abbrev pub sequence_rule : Rule → ℕ → Rule
 sequence_rule element close = seq ws (alt (one close) (seq (seq (seq element ws) (many (comma_rule element))) (one close)))
 
+-- a list of values of this rule
 abbrev pub list_rule : Rule → Rule
 list_rule value = seq (one 91) (sequence_rule value 93)
 
+-- a member: a key, a colon and a value
 abbrev pub member_rule : Rule → Rule
 member_rule value = seq text_rule (seq ws (seq (one 58) (seq ws value)))
 
+-- an object of values of this rule
 abbrev pub object_rule : Rule → Rule
 object_rule value = seq (one 123) (sequence_rule (member_rule value) 125)
 

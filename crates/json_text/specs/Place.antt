@@ -23,5 +23,6 @@ behind kind r = past (prefix_len kind r.left) r
 abbrev pub is_blank : ℕ → Bool
 is_blank b = b == 32 || b == 9 || b == 10 || b == 13
 
+-- what stands behind the blanks
 abbrev pub blanks : Rest → Rest
 blanks r = behind is_blank r

@@ -25,6 +25,7 @@ abbrev pub placed_members : ℕ → List (List ℕ × Placing Json) → List (Li
 placed_members at [] = []
 placed_members at (m ∷ ms) = (m.0, m.1.1 (behind_key at m.0)) ∷ placed_members (behind_key at m.0 + length m.1.0 + 1) ms
 
+-- a kind with the places of its values, from a place on
 abbrev pub placed_kind : JsonKind-F (Placing JsonKind) (Placing Json) → ℕ → JsonKind
 placed_kind JsonKind-F.Null at = kinds.Null
 placed_kind (JsonKind-F.Truth truth) at = kinds.Truth truth
@@ -33,12 +34,15 @@ placed_kind (JsonKind-F.Text text) at = kinds.Text text
 placed_kind (JsonKind-F.List items) at = kinds.List (placed_items (at + 1) items)
 placed_kind (JsonKind-F.Object members) at = kinds.Object (placed_members (at + 1) members)
 
+-- the places in a kind, from those in its values
 abbrev pub placing_step : JsonKind-F (Placing JsonKind) (Placing Json) → Placing JsonKind
 placing_step layer = (kind_step (map-JsonKind (Placing JsonKind) (Placing Json) (List ℕ) (List ℕ) (λ p. p.0) (λ p. p.0) layer), placed_kind layer)
 
+-- the places in a value, from those in its kind
 abbrev pub placing_step_json : Json-F (Placing JsonKind) (Placing Json) → Placing Json
 placing_step_json json = (json.kind.0, λ at. record { at = at; kind = json.kind.1 at })
 
+-- a value with the places of its text, from a place on
 unfoldable pub placing : Json → Placing Json
 placing = fold-Json (Placing JsonKind) (Placing Json) placing_step placing_step_json
 
@@ -57,8 +61,10 @@ containers_step (JsonKind-F.List below) = 1 + largest below
 containers_step (JsonKind-F.Object below) = 1 + largest (map (λ (m : List ℕ × ℕ). m.1) below)
 containers_step _ = 0
 
+-- a value has the containers of its kind
 abbrev pub containers_step_json : Json-F ℕ ℕ → ℕ
 containers_step_json json = json.kind
 
+-- how many containers stand in one another in a value
 unfoldable pub containers : Json → ℕ
 containers = fold-Json ℕ ℕ containers_step containers_step_json

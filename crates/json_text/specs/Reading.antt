@@ -24,6 +24,7 @@ Reads X = Result (X × Rest) JsonFault
 
 -- one reading after another
 infixl 10 ◌>>=◌
+-- one part after another; the first fault counts
 abbrev pub ◌>>=◌ : {A B : Type 0} → Result A JsonFault → (A → Result B JsonFault) → Result B JsonFault
 (Ok x) >>= f = f x
 (Err e) >>= f = Err e
@@ -51,9 +52,11 @@ these (b ∷ bs) r = this b r >>= these bs
 abbrev pub some_digits : Rest → Result Rest JsonFault
 some_digits r = one_of is_digit r >>= λ p. Ok (behind is_digit p.1)
 
+-- the digits before a point
 abbrev pub integer : Rest → Result Rest JsonFault
 integer r = one_of is_digit r >>= λ p. cond (p.0 == 48) (Ok p.1) (Ok (behind is_digit p.1))
 
+-- a point and digits, if there are any
 abbrev pub fraction : Rest → Result Rest JsonFault
 fraction r = cond (head r == 46) (some_digits (past 1 r)) (Ok r)
 
@@ -61,6 +64,7 @@ fraction r = cond (head r == 46) (some_digits (past 1 r)) (Ok r)
 abbrev pub passed : (ℕ → Bool) → Rest → Rest
 passed kind r = cond (kind (head r)) (past 1 r) r
 
+-- an exponent, if there is one
 abbrev pub exponent : Rest → Result Rest JsonFault
 exponent r = cond (is_e (head r)) (some_digits (passed is_sign (past 1 r))) (Ok r)
 
@@ -123,6 +127,7 @@ unfoldable pub text : ℕ → Rest → Reads (List ℕ)
 text zero r = Err (BadJson r.at)
 text (suc n) r = cond (head r == 34) (Ok ([], past 1 r)) (piece r >>= λ p. with_front p.0 (text n p.1))
 
+-- a text with its quotes
 abbrev pub quoted : Rest → Reads (List ℕ)
 quoted r = this 34 r >>= λ q. text (length q.left + 1) q
 
@@ -146,11 +151,13 @@ elements one close (suc n) r = one r >>= λ p. comma_or close (blanks p.1) >>= m
 abbrev pub sequence : {X : Type 0} → (Rest → Reads X) → ℕ → ℕ → Rest → Reads (List X)
 sequence one close n r = cond (head (blanks r) == close) (Ok ([], past 1 (blanks r))) (elements one close n (blanks r))
 
+-- a member of an object
 abbrev pub member : (Rest → Reads Json) → Rest → Reads (List ℕ × Json)
 member value r = quoted r >>= λ k. this 58 (blanks k.1) >>= λ c. value (blanks c) >>= λ v. Ok ((k.0, v.0), v.1)
 
 -- Values.
 
+-- a value of what was read, at the place where it began
 abbrev pub make : {X : Type 0} → Rest → (X → JsonKind) → Reads X → Reads Json
 make r kind read = read >>= λ p. Ok (record { at = r.at; kind = kind p.0 }, p.1)
 

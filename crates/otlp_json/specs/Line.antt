@@ -116,9 +116,11 @@ value_step (Value-F.Bytes bytes) = one_json (codes "bytesValue") (text_json (bas
 value_step (Value-F.List items) = one_json (codes "arrayValue") (values_json items)
 value_step (Value-F.Map items) = one_json (codes "kvlistValue") (values_json items)
 
+-- the pairs of a map
 abbrev pub pairs_step : Pairs-F Json (List Json) (List Json) → List Json
 pairs_step map_of = map (λ p. pair_of p.0 p.1) map_of.items
 
+-- the values of a list
 abbrev pub values_step : Values-F Json (List Json) (List Json) → List Json
 values_step list = list.items
 
@@ -163,6 +165,7 @@ record_members log =
     ++ id_member (codes "traceId") log.trace_id
     ++ id_member (codes "spanId") log.span_id
 
+-- a log record
 unfoldable pub record_json : LogRecord → Json
 record_json log = object_json (record_members log)
 
@@ -181,6 +184,7 @@ scope_logs_members element =
     ∷ list_member (codes "logRecords") (map record_json element.logs)
     ++ text_member (codes "schemaUrl") element.node.schema_url
 
+-- a scope with its log records
 unfoldable pub scope_logs_json : ScopeTree → Json
 scope_logs_json element = object_json (scope_logs_members element)
 
@@ -196,6 +200,7 @@ resource_logs_members element =
     ∷ list_member (codes "scopeLogs") (map scope_logs_json element.scopes)
     ++ text_member (codes "schemaUrl") element.node.schema_url
 
+-- a resource with its scopes
 unfoldable pub resource_logs_json : ResourceTree → Json
 resource_logs_json element = object_json (resource_logs_members element)
 

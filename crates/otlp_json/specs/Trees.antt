@@ -32,6 +32,7 @@ empty_record = record {
   span_id = replicate 8 0;
 }
 
+-- the members of a log record
 unfoldable pub record_table : List (Row LogRecord)
 record_table =
     plain (codes "timeUnixNano") u64_in (λ log time. record log { time = time })
@@ -56,6 +57,7 @@ record_in json n = one_record json.at n >>= object record_table empty_record jso
 abbrev pub empty_scope : ScopeNode
 empty_scope = record { name = []; version = []; attributes = record { items = [] }; dropped = 0; schema_url = [] }
 
+-- the members of a scope
 unfoldable pub scope_table : List (Row ScopeNode)
 scope_table =
     plain (codes "name") text_in (λ scope name. record scope { name = name })
@@ -76,9 +78,11 @@ records_in = list record_in
 abbrev pub with_scope : ScopeTree → ScopeNode → ScopeTree
 with_scope element scope = record element { node = record scope { schema_url = element.node.schema_url } }
 
+-- a scope with this URL of its schema
 abbrev pub with_scope_schema : ScopeTree → List ℕ → ScopeTree
 with_scope_schema element url = record element { node = record element.node { schema_url = url } }
 
+-- the members of a scope element
 unfoldable pub scope_logs_table : List (Row ScopeTree)
 scope_logs_table =
     nested (codes "scope") scope_in with_scope
@@ -100,6 +104,7 @@ scope_logs_in json n = one_holder json.at n >>= object scope_logs_table empty_sc
 abbrev pub empty_resource : ResourceNode
 empty_resource = record { attributes = record { items = [] }; dropped = 0; schema_url = [] }
 
+-- the members of a resource
 unfoldable pub resource_table : List (Row ResourceNode)
 resource_table =
     nested (codes "attributes") (pairs_in most_levels) (λ resource attributes. record resource { attributes = attributes })
@@ -118,9 +123,11 @@ scopes_in = list scope_logs_in
 abbrev pub with_resource : ResourceTree → ResourceNode → ResourceTree
 with_resource element resource = record element { node = record resource { schema_url = element.node.schema_url } }
 
+-- a resource with this URL of its schema
 abbrev pub with_resource_schema : ResourceTree → List ℕ → ResourceTree
 with_resource_schema element url = record element { node = record element.node { schema_url = url } }
 
+-- the members of a resource element
 unfoldable pub resource_logs_table : List (Row ResourceTree)
 resource_logs_table =
     nested (codes "resource") resource_in with_resource
@@ -142,6 +149,7 @@ resource_logs_in json n = one_holder json.at n >>= object resource_logs_table em
 unfoldable pub resources_in : Reader (List ResourceTree)
 resources_in = list resource_logs_in
 
+-- the members of a payload
 unfoldable pub batch_table : List (Row Batch)
 batch_table = nested (codes "resourceLogs") resources_in (λ batch resources. record batch { resources = resources }) ∷ []
 

@@ -14,15 +14,19 @@ end = 0
 abbrev pub lower : ℕ
 lower = 1
 
+-- an upper name
 abbrev pub upper : ℕ
 upper = 2
 
+-- a text
 abbrev pub quoted : ℕ
 quoted = 3
 
+-- a whole number
 abbrev pub digits : ℕ
 digits = 4
 
+-- bytes
 abbrev pub hex : ℕ
 hex = 5
 
@@ -30,21 +34,27 @@ hex = 5
 abbrev pub where_word : ℕ
 where_word = 6
 
+-- the word `and`
 abbrev pub and_word : ℕ
 and_word = 7
 
+-- the word `or`
 abbrev pub or_word : ℕ
 or_word = 8
 
+-- the word `not`
 abbrev pub not_word : ℕ
 not_word = 9
 
+-- the word `true`
 abbrev pub true_word : ℕ
 true_word = 10
 
+-- the word `false`
 abbrev pub false_word : ℕ
 false_word = 11
 
+-- the word `nil`
 abbrev pub nil_word : ℕ
 nil_word = 12
 
@@ -52,12 +62,15 @@ nil_word = 12
 abbrev pub equal : ℕ
 equal = 13
 
+-- the sign `!=`
 abbrev pub unequal : ℕ
 unequal = 14
 
+-- the sign `<=`
 abbrev pub at_most : ℕ
 at_most = 15
 
+-- the sign `>=`
 abbrev pub at_least : ℕ
 at_least = 16
 

@@ -13,6 +13,7 @@ fault kind at = record { kind = kind; at = at }
 
 -- what a step gives goes on into the next; the first fault stays
 infixl 10 ◌>>=◌
+-- one part after another; the first fault counts
 abbrev pub ◌>>=◌ : {A B : Type 0} → Result A SyntaxFault → (A → Result B SyntaxFault) → Result B SyntaxFault
 (Ok x) >>= f = f x
 (Err e) >>= f = Err e
@@ -46,6 +47,7 @@ abbrev pub byte_beside : List (ℕ × ℕ) → ℕ → Option ℕ
 byte_beside [] c = None
 byte_beside (row ∷ rows) c = cond (c == row.0) (Some row.1) (byte_beside rows c)
 
+-- what a letter behind a backslash stands for
 abbrev pub letter_escape : ℕ → Option ℕ
 letter_escape c = byte_beside letters c
 

@@ -64,10 +64,12 @@ abbrev pub spelled : List Piece → List ℕ
 spelled [] = []
 spelled (p ∷ ps) = spelling p ++ spelled ps
 
+-- the bytes that pieces mean
 abbrev pub meant : List Piece → List ℕ
 meant [] = []
 meant (p ∷ ps) = meaning p ++ meant ps
 
+-- pieces of the contents of a text, one after another
 abbrev pub ArePieces : List Piece → Type 0
 ArePieces [] = Unit {0}
 ArePieces (p ∷ ps) = IsPiece p × ArePieces ps

@@ -41,6 +41,7 @@ abbrev pub keywords : List (List ℕ)
 keywords =
     codes "where" ∷ codes "and" ∷ codes "or" ∷ codes "not" ∷ codes "true" ∷ codes "false" ∷ codes "nil" ∷ []
 
+-- whether a lower name is a keyword
 abbrev pub is_keyword : List ℕ → Bool
 is_keyword name = is_name_of keywords name
 
