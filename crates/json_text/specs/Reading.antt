@@ -24,7 +24,6 @@ Reads X = Result (X × Rest) JsonFault
 
 -- one reading after another
 infixl 10 ◌>>=◌
--- one part after another; the first fault counts
 abbrev pub ◌>>=◌ : {A B : Type 0} → Result A JsonFault → (A → Result B JsonFault) → Result B JsonFault
 (Ok x) >>= f = f x
 (Err e) >>= f = Err e

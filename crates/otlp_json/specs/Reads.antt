@@ -27,7 +27,6 @@ or_wrong kind at (Some x) = Ok x
 
 -- one reading after another
 infixl 10 ◌>>=◌
--- one thing after another; the first fault counts
 abbrev pub ◌>>=◌ : {A B : Type 0} → Read A → (A → Read B) → Read B
 (Ok x) >>= f = f x
 (Err e) >>= f = Err e

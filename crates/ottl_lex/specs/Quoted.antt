@@ -13,7 +13,6 @@ fault kind at = record { kind = kind; at = at }
 
 -- what a step gives goes on into the next; the first fault stays
 infixl 10 ◌>>=◌
--- one part after another; the first fault counts
 abbrev pub ◌>>=◌ : {A B : Type 0} → Result A SyntaxFault → (A → Result B SyntaxFault) → Result B SyntaxFault
 (Ok x) >>= f = f x
 (Err e) >>= f = Err e

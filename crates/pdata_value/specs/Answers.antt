@@ -11,7 +11,6 @@ Answers result meant = Gives (λ x. x) eval_fault result meant
 
 -- one thing after another; the first error counts
 infixl 10 ◌>>=◌
--- one thing after another; the first error counts
 abbrev pub ◌>>=◌ : {A B : Type 0} → Result A EvalErr → (A → Result B EvalErr) → Result B EvalErr
 (Ok x) >>= f = f x
 (Err e) >>= f = Err e
