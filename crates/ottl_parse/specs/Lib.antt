@@ -5,3 +5,5 @@ pub mod Checks
 pub mod Parsing
 -- How they are printed.
 pub mod Printing
+-- The grammar, apart from how tokens are read.
+pub mod Grammar

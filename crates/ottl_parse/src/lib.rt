@@ -4,6 +4,7 @@
 mod check;
 mod cursor;
 mod expr;
+mod laws;
 mod literal;
 mod parse;
 mod path;
@@ -14,6 +15,7 @@ mod sign;
 mod statement;
 
 pub use expr::{Call, Compare, Expr, ExprKind, Exprs, MapPart, MapParts, Term, Terms};
+pub use laws::what_is_parsed_is_spelled;
 pub use parse::{parse_condition, parse_statement};
 pub use path::{Names, Path, PathKey, PathKeys};
 pub use print::print_statement;
