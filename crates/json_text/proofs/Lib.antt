@@ -21,3 +21,4 @@ pub mod Utf8
 pub mod Deeper
 pub mod KindLemmas
 pub mod NullPlaces
+pub mod CutObjects
