@@ -143,3 +143,30 @@ unfolding is_null
 is_null-other json not = null_layer-other json.kind (out-JsonKind json.kind) (sym (roll-out-JsonKind json.kind)) not
 
 pub ruleset null_kinds = (is_null-Null, is_null-other)
+
+-- a text is no number
+pub as_number-Text : (json : Json) (t : List ℕ) → json.kind ≡ kinds.Text t → as_number json ≡ None
+unfolding as_number
+as_number-Text json t is = ap number_layer (ap out-JsonKind is ∙ kinds.outs-Text t)
+
+-- Which values are null, by their kinds.
+
+pub is_null-Text : (json : Json) (t : List ℕ) → json.kind ≡ kinds.Text t → is_null json ≡ false
+unfolding is_null
+is_null-Text json t is = ap null_layer (ap out-JsonKind is ∙ kinds.outs-Text t)
+
+pub is_null-Number : (json : Json) (t : List ℕ) → json.kind ≡ kinds.Number t → is_null json ≡ false
+unfolding is_null
+is_null-Number json t is = ap null_layer (ap out-JsonKind is ∙ kinds.outs-Number t)
+
+pub is_null-Truth : (json : Json) (t : Bool) → json.kind ≡ kinds.Truth t → is_null json ≡ false
+unfolding is_null
+is_null-Truth json t is = ap null_layer (ap out-JsonKind is ∙ kinds.outs-Truth t)
+
+pub is_null-List : (json : Json) (js : List Json) → json.kind ≡ kinds.List js → is_null json ≡ false
+unfolding is_null
+is_null-List json js is = ap null_layer (ap out-JsonKind is ∙ kinds.outs-List js)
+
+pub is_null-Object : (json : Json) (ms : List Member) → json.kind ≡ kinds.Object ms → is_null json ≡ false
+unfolding is_null
+is_null-Object json ms is = ap null_layer (ap out-JsonKind is ∙ kinds.outs-Object ms)

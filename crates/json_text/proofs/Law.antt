@@ -28,7 +28,7 @@ use Rattle.contract_words.proofs.Whole.{spelled_of_run, run_of_spelled}
 use Rattle.json_text.proofs.Fitting.{json_fits}
 
 -- what an answer says of a run of the grammar
-abbrev Judged : Bool → ℕ × Bool → Rest → Result Json JsonFault → Type 0
+abbrev pub Judged : Bool → ℕ × Bool → Rest → Result Json JsonFault → Type 0
 Judged deeper o start (Ok j) = o.1 ≡ true
 Judged deeper o start (Err (BadJson at)) = Stops o start at
 Judged deeper o start (Err (TooDeep at)) = Deep deeper o start at
@@ -58,7 +58,7 @@ judged_end deeper a o start j at (x ∷ xs) g =
     } in
     subst (λ (t : Bool). Judged deeper o start (cond t (Ok j) (Err (BadJson at)))) (sym (some_left x xs)) stops
 
-judged : (deeper : Bool) (depth d : ℕ) → Depths deeper depth d → (bytes : List ℕ) → Judged deeper (run (json d ∷ []) bytes) (record { at = 0; left = bytes }) (document depth bytes)
+pub judged : (deeper : Bool) (depth d : ℕ) → Depths deeper depth d → (bytes : List ℕ) → Judged deeper (run (json d ∷ []) bytes) (record { at = 0; left = bytes }) (document depth bytes)
 unfolding document
 judged deeper depth d deep bytes =
     let start : Rest = record { at = 0; left = bytes } in

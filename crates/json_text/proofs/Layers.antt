@@ -58,6 +58,10 @@ containers-Object json ms is =
     ∙ fold-roll-JsonKind ℕ ℕ containers_step containers_step_json (JsonKind-F.Object ms)
     ∙ ap (λ (n : ℕ). 1 + n) (members_deepest ms)
 
+pub deepest-none : deepest_item [] ≡ 0
+unfolding deepest_item
+deepest-none = refl
+
 pub deepest-cons : (j : Json) (js : List Json) → deepest_item (j ∷ js) ≡ max (containers j) (deepest_item js)
 unfolding deepest_item
 deepest-cons j js = refl

@@ -20,3 +20,5 @@ pub mod RoundTrip
 pub mod Utf8
 pub mod Deeper
 pub mod KindLemmas
+pub mod NullPlaces
+pub mod CutObjects

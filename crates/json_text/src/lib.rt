@@ -2,6 +2,7 @@
 #![tactic(auto)]
 
 mod cursor;
+mod cuts;
 mod error;
 mod escape;
 mod json;
@@ -14,6 +15,7 @@ mod scan;
 mod text;
 mod writer;
 
+pub use cuts::cut_objects_are_refused;
 pub use error::JsonFault;
 pub use json::{Items, Json, JsonKind, Members};
 pub use kinds::Member;

@@ -3,3 +3,14 @@ pub mod Levels
 pub mod Doubles
 pub mod ValueJson
 pub mod Words
+pub mod PlaceFree
+pub mod ValuesFree
+pub mod Pieces
+pub mod FieldsBack
+pub mod Counting
+pub mod ValuesBack
+pub mod TreesBack
+pub mod Sound
+pub mod TreesFree
+pub mod TreesSound
+pub mod ReadBack

@@ -8,6 +8,7 @@ pub mod Limits
 pub mod Reads
 pub mod Line
 pub mod Names
+pub mod WellFormed
 -- What trees and JSON are, for those who cite payloads.
 pub use Rattle.pdata_tree.specs.Tree
 pub use Rattle.json_text.specs.Reading

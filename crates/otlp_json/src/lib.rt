@@ -4,6 +4,7 @@
 mod counts;
 mod error;
 mod fields;
+mod laws;
 mod number;
 mod reading;
 mod record;
@@ -13,6 +14,7 @@ mod value;
 mod writing;
 
 pub use error::{PayloadFault, PayloadKind, PayloadStop};
+pub use laws::{cut_lines_are_refused, lines_read_back};
 pub use reading::read_payload;
 pub use writing::{push_line, write_line};
 

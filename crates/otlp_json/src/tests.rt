@@ -1,6 +1,8 @@
 //! What given lines are read as, and how they are written.
 
-use crate::{PayloadStop, push_line, read_payload, write_line};
+use crate::{
+    PayloadStop, cut_lines_are_refused, lines_read_back, push_line, read_payload, write_line,
+};
 use std::alloc::{AllocError, Global};
 use std::process::Abort;
 use std::test::Fail;
@@ -292,6 +294,8 @@ fn values_nest_sixty_four_deep(rt: HostRuntime) -> Result<(), Fail> {
 
 #[test]
 fn a_line_is_pushed_behind_what_stands(rt: HostRuntime) -> Result<(), Fail> {
+    lines_read_back();
+    cut_lines_are_refused();
     let batch = read_payload(rt.alloc(), b"{}")?;
     let mut out = b"x\n".to_vec(rt.alloc())?;
     push_line(&mut out, &batch)?;
