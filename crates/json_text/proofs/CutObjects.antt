@@ -8,21 +8,22 @@ use Rattle.std.proofs.lemmas.Bool.Decides.{nat_tests}
 use Rattle.std.proofs.lemmas.Str.{utf8_valid_len-IsUtf8, utf8_valid_len-IsValidUpTo}
 use Rattle.std.proofs.Math.Seq.{take-length}
 use Rattle.contract_words.specs.Grammar.{Rule, nothing, byte, alt, seq, many, spells, viable, nullable, first, after}
-use Rattle.contract_words.specs.Rows.{step}
+use Rattle.contract_words.specs.Fronts.{IsLongest}
+use Rattle.contract_words.specs.Rows.{row_nullable, run, step, taken}
 use Rattle.contract_words.proofs.Fronts.{front_viable}
 use Rattle.contract_words.proofs.Viable.{spelled_viable}
 use Rattle.json_text.specs.Place.{Rest, head, past, is_blank, blanks}
 use Rattle.json_text.specs.Kinds.{Member, members_layer, as_members}
 use Rattle.json_text.specs.Reading.{◌>>=◌, Reads, make, these, literal, quoted, number, scalar, sequence, member, value, ended, document, json_text}
-use Rattle.json_text.specs.Grammar.{ws, one, member_rule, sequence_rule, value_rule, json, IsLongestViable}
+use Rattle.json_text.specs.Grammar.{ws, one, member_rule, sequence_rule, value_rule, json}
 use Rattle.json_text.specs.declared.json.Json.{Json}
 use Rattle.json_text.specs.declared.json.JsonKind.{JsonKind, out-JsonKind}
 use Rattle.json_text.specs.declared.json.JsonKind.TheVariants as kinds
 use Rattle.json_text.specs.declared.error.JsonFault.{JsonFault}
 use Rattle.json_text.specs.declared.error.JsonFault.TheVariants.{BadUtf8, BadJson, TooDeep, NoMemory}
 use Rattle.json_text.proofs.Values.{same_length}
-use Rattle.json_text.proofs.Runs.{row_nullable, taken, run, run-seq}
-use Rattle.json_text.proofs.Whole.{run_of_spelled}
+use Rattle.contract_words.proofs.Machine.{run-seq}
+use Rattle.contract_words.proofs.Whole.{run_of_spelled}
 use Rattle.json_text.proofs.Fitting.{json_fits}
 use Rattle.json_text.proofs.Law.{Judged, judged, read_spelled, bad_longest, deep_longest, deep_goes_on}
 
@@ -309,7 +310,7 @@ at_or_before (suc a) zero h = absurd (omega arith)
 at_or_before (suc a) (suc n) h = elim (at_or_before a n (omega arith)) [ inl e ↦ inl (ap suc e) | inr l ↦ inr (omega arith) ]
 
 -- a viable text is its own longest viable front
-longest_whole : (rule : Rule) (text : List ℕ) (at : ℕ) → viable rule text → IsLongestViable rule text at → at ≡ length text
+longest_whole : (rule : Rule) (text : List ℕ) (at : ℕ) → viable rule text → IsLongest (viable rule) text at → at ≡ length text
 longest_whole rule text at begun longest =
     elim (at_or_before at (length text) longest.within) [
       | inl e ↦ e
