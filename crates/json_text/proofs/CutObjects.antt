@@ -1,9 +1,8 @@
 -- No proper front of an object is a text of JSON, where the object ends in its brace.
-use Rattle.std.proofs.Common.{◌≡◌, ◌∙◌, ℕ, zero, suc, ◌+◌, ◌<◌, ◌≤◌, Bool, true, false, List, [], ◌∷◌, ◌++◌, length, drop, take, get_or, Option, Some, None, Result, Ok, Err, ◌⊎◌, inl, inr, refl, sym, ap, subst, arith, cond, append-nil}
+use Rattle.std.proofs.Common.{◌≡◌, ◌∙◌, ℕ, zero, suc, ◌+◌, ◌<◌, ◌≤◌, Bool, true, false, List, [], ◌∷◌, ◌++◌, length, drop, Option, Some, None, Result, Ok, Err, ◌⊎◌, inl, inr, refl, sym, ap, subst, arith, cond, append-nil}
 use Rattle.std.specs.Prelude.{◌&&◌, ◌||◌, ◌==◌, slice_index, codes}
 use Rattle.std.specs.List.{prefix_len}
 use Rattle.std.specs.Str.{IsUtf8, IsValidUpTo}
-use Rattle.std.specs.Str.Lossy.{utf8_valid_len}
 use Rattle.std.proofs.lemmas.Bool.Decides.{nat_tests}
 use Rattle.std.proofs.lemmas.Str.{utf8_valid_len-IsUtf8, utf8_valid_len-IsValidUpTo}
 use Rattle.std.proofs.Math.Seq.{take-length}
@@ -14,8 +13,8 @@ use Rattle.contract_words.proofs.Fronts.{front_viable}
 use Rattle.contract_words.proofs.Viable.{spelled_viable}
 use Rattle.json_text.specs.Place.{Rest, head, past, is_blank, blanks}
 use Rattle.json_text.specs.Kinds.{Member, members_layer, as_members}
-use Rattle.json_text.specs.Reading.{◌>>=◌, Reads, make, these, literal, quoted, number, scalar, sequence, member, value, ended, document, json_text}
-use Rattle.json_text.specs.Grammar.{ws, one, member_rule, sequence_rule, value_rule, json}
+use Rattle.json_text.specs.Reading.{◌>>=◌, Reads, make, these, literal, quoted, number, scalar, sequence, value, ended, document, json_text}
+use Rattle.json_text.specs.Grammar.{ws, member_rule, sequence_rule, value_rule, json}
 use Rattle.json_text.specs.declared.json.Json.{Json}
 use Rattle.json_text.specs.declared.json.JsonKind.{JsonKind, out-JsonKind}
 use Rattle.json_text.specs.declared.json.JsonKind.TheVariants as kinds

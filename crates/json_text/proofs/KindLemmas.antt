@@ -1,5 +1,5 @@
 -- What values hold by their kinds.
-use Rattle.std.proofs.Common.{◌≡◌, ◌∙◌, ℕ, Bool, true, false, List, Option, Some, None, refl, sym, ap}
+use Rattle.std.proofs.Common.{◌≡◌, ◌∙◌, ℕ, Bool, true, false, List, Some, None, refl, sym, ap}
 use Rattle.json_text.specs.declared.json.Json.{Json}
 use Rattle.json_text.specs.declared.json.JsonKind.{JsonKind, roll-JsonKind, out-JsonKind}
 use Rattle.json_text.specs.declared.json.JsonKind.TheVariants as kinds

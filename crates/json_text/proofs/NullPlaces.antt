@@ -1,5 +1,5 @@
 -- Whether a value is null doesn't depend on where it stands.
-use Rattle.std.proofs.Common.{◌≡◌, ◌∙◌, ℕ, Bool, refl, sym, ap}
+use Rattle.std.proofs.Common.{◌≡◌, ◌∙◌, ℕ, refl, sym, ap}
 use Rattle.json_text.specs.Placed.{Placing, placed}
 use Rattle.json_text.specs.Kinds.{is_null}
 use Rattle.json_text.specs.declared.json.Json.{Json}

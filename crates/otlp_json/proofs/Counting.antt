@@ -1,5 +1,5 @@
 -- Counts that are added up.
-use Rattle.std.proofs.Common.{◌≡◌, ◌∙◌, ℕ, suc, ◌+◌, ◌<◌, ◌≤◌, Bool, ℤ, List, [], ◌∷◌, map, Ok, nat_lt, refl, sym, ap, arith}
+use Rattle.std.proofs.Common.{◌≡◌, ◌∙◌, ℕ, suc, ◌+◌, ◌<◌, Bool, ℤ, List, [], ◌∷◌, map, Ok, refl, sym, ap, arith}
 use Rattle.pdata_value.specs.Measure.{total}
 use Rattle.pdata_value.specs.Value.{items, pairs}
 use Rattle.pdata_value.specs.declared.value.Value.{Value}
@@ -9,7 +9,6 @@ use Rattle.pdata_value.specs.declared.value.Value.TheOpen.{Value-F}
 use Rattle.pdata_value.specs.declared.value.Value.TheVariants as variants
 use Rattle.pdata_value.specs.declared.value.Value.TheFolds.{fold-roll-Value, fold_out-Values, fold_out-Pairs}
 use Rattle.otlp_json.specs.declared.counts.Counts.{Counts}
-use Rattle.otlp_json.specs.Reads.{Read}
 use Rattle.otlp_json.specs.Limits.{most_records, most_holders, most_values, none_counted, one_record, one_holder, one_value}
 use Rattle.otlp_json.specs.WellFormed.{plus, Within, only_values, sizes, count_step, count_step_pairs, count_step_values, values_in_value, values_in_pairs, values_in_items}
 use Rattle.otlp_json.proofs.FieldsBack.{less-is}

@@ -1,9 +1,8 @@
 -- What a field is written as is read as the field.
-use Rattle.std.proofs.Common.{◌≡◌, ◌∙◌, ℕ, ℤ, zero, suc, ◌+◌, ◌*◌, ◌-◌, ◌<◌, ◌≤◌, ◌^◌, ◌==◌, Bool, true, false, List, [], ◌∷◌, length, get_or, Option, Some, None, Ok, nat_lt, refl, sym, ap, arith, cond, pos, negsuc, replicate, SFits, w32, w64}
-use Rattle.std.specs.Prelude.{◌&&◌, option_map, codes}
+use Rattle.std.proofs.Common.{◌≡◌, ◌∙◌, ℕ, ℤ, zero, suc, ◌+◌, ◌*◌, ◌-◌, ◌<◌, ◌≤◌, ◌^◌, ◌==◌, Bool, true, false, List, [], ◌∷◌, length, get_or, Option, Some, Ok, nat_lt, refl, ap, arith, cond, pos, negsuc, replicate, SFits, w32, w64}
+use Rattle.std.specs.Prelude.{◌&&◌, option_map}
 use Rattle.std.specs.List.{list_all}
 use Rattle.std.specs.Result.{result_ok}
-use Rattle.std.specs.Ordering.{int_eq}
 use Rattle.std.specs.Char.{digit_value}
 use Rattle.std.specs.Fmt as fmt
 use Rattle.std.specs.Str.Parse.{AllDigits, digits_value, digits_value_after}
@@ -12,20 +11,17 @@ use Rattle.std.proofs.lemmas.Int.{ints}
 use Rattle.std.proofs.lemmas.Fmt.{decimal_is_IsNumeral, decimal_digit, first_decimal}
 use Rattle.std.proofs.lemmas.Str.{digit_value_digit}
 use Rattle.std.proofs.lemmas.Str.Parse.{digit_from_value}
-use Rattle.hex.specs.Hex.{IsBytes, decode_sized, encode_lower, encode_with}
+use Rattle.hex.specs.Hex.{IsBytes, encode_lower, encode_with}
 use Rattle.hex.proofs.HexLemmas.{decode_sized-encode_lower}
 use Rattle.base64.specs.Engines.{standard}
 use Rattle.base64.specs.GeneralPurpose as base64
 use Rattle.base64.proofs.EngineFacts.{decode_of-encode_of}
 use Rattle.pdata_value.specs.Numeral.{is_digit, IsSpelling}
-use Rattle.pdata_value.specs.Scan.{is_spelling}
 use Rattle.pdata_value.proofs.Numerals.{spelled_is}
-use Rattle.json_text.specs.Kinds.{as_text, as_truth, as_number}
-use Rattle.json_text.specs.declared.json.Json.{Json}
 use Rattle.json_text.proofs.KindLemmas.{as_text-Text, as_truth-Truth, as_number-Number}
 use Rattle.otlp_json.specs.declared.error.PayloadKind.TheVariants.{WrongKind, BadNumber, BadId, BadBase64}
 use Rattle.otlp_json.specs.Reads.{Read, or_wrong, ◌>>=◌}
-use Rattle.otlp_json.specs.Fields.{text_in, truth_in, spelled_in, numeral_in, decimal, digits, negative, whole, below, around, u64_in, u32_in, i64_in, i32_in, id_bytes, id_in, bytes_in, double, double_in}
+use Rattle.otlp_json.specs.Fields.{text_in, truth_in, numeral_in, decimal, digits, negative, whole, below, around, u64_in, u32_in, i64_in, i32_in, id_bytes, id_in, bytes_in, double_in}
 use Rattle.otlp_json.specs.Line.{text_json, number_json, truth_json, is_word, double_json}
 use Rattle.otlp_json.proofs.PlaceFree.{spelled_in-Number, spelled_in-Text, double_in-Number, double_in-Text}
 

@@ -1,11 +1,9 @@
 -- A value, whatever levels are left.
 use Rattle.std.proofs.Common.{◌≡◌, ℕ, zero, suc, ◌-◌, Bool, true, false, nat_lt, Ok, refl, arith}
 use Rattle.std.specs.Prelude.{cond}
-use Rattle.pdata_value.specs.declared.value.Value.{Value}
-use Rattle.pdata_value.specs.declared.value.Value.TheVariants as values
 use Rattle.json_text.specs.declared.json.Json.{Json}
 use Rattle.otlp_json.specs.declared.counts.Counts.{Counts}
-use Rattle.otlp_json.specs.declared.error.PayloadKind.TheVariants.{TooMany, TooDeep}
+use Rattle.otlp_json.specs.declared.error.PayloadKind.TheVariants.{TooMany}
 use Rattle.otlp_json.specs.Reads.{Read, wrong, ◌>>=◌}
 use Rattle.otlp_json.specs.Limits.{most_values, level, one_value}
 use Rattle.otlp_json.specs.Values.{value_by, value_in}

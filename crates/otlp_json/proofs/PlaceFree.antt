@@ -1,6 +1,6 @@
 -- Reading doesn't depend on places, where it gives a value.
-use Rattle.std.proofs.Common.{◌≡◌, ◌∙◌, ℕ, ◌+◌, ◌^◌, Bool, true, false, not, List, [], ◌∷◌, length, Option, Some, None, Ok, Err, refl, sym, ap, map, nat_lt, ◌⊎◌, inl, inr}
-use Rattle.std.specs.Prelude.{◌||◌, ◌&&◌, cond, codes}
+use Rattle.std.proofs.Common.{◌≡◌, ◌∙◌, ℕ, ◌+◌, ◌^◌, Bool, true, false, not, List, [], ◌∷◌, length, Option, Some, None, Ok, Err, refl, ap, map, ◌⊎◌, inl, inr}
+use Rattle.std.specs.Prelude.{◌||◌, ◌&&◌, cond}
 use Rattle.std.specs.Str.{bytes_eq}
 use Rattle.std.specs.Result.{result_ok}
 use Rattle.base64.specs.Engines.{standard}
@@ -10,15 +10,14 @@ use Rattle.json_text.specs.Placed.{Placing, placed_members, behind_key, placing,
 use Rattle.json_text.specs.Kinds.{Member, as_text, as_truth, as_number, as_items, as_members, is_null}
 use Rattle.json_text.specs.Members.{stands}
 use Rattle.json_text.specs.declared.json.Json.{Json}
-use Rattle.json_text.specs.declared.json.JsonKind.{JsonKind}
 use Rattle.json_text.specs.declared.json.JsonKind.TheVariants as kinds
-use Rattle.json_text.proofs.Layers.{placing-Truth, placing-Number, placing-Text, placing-List, placing-Object}
+use Rattle.json_text.proofs.Layers.{placing-Truth, placing-Number, placing-Text, placing-Object}
 use Rattle.json_text.proofs.KindLemmas.{as_text-Text, as_text-back, as_truth-Truth, as_truth-back, as_number-Number, as_number-back, as_number-Text, as_items-List, as_items-back, as_members-Object, as_members-back}
 use Rattle.json_text.proofs.NullPlaces.{null-placed}
 use Rattle.otlp_json.specs.declared.counts.Counts.{Counts}
 use Rattle.otlp_json.specs.declared.error.PayloadKind.{PayloadKind}
-use Rattle.otlp_json.specs.declared.error.PayloadKind.TheVariants.{TooMany, WrongKind, BadNumber, BadId, BadBase64}
-use Rattle.otlp_json.specs.Reads.{Read, wrong, or_wrong, ◌>>=◌}
+use Rattle.otlp_json.specs.declared.error.PayloadKind.TheVariants.{WrongKind, BadNumber, BadId, BadBase64}
+use Rattle.otlp_json.specs.Reads.{Read, or_wrong, ◌>>=◌}
 use Rattle.otlp_json.specs.Fields.{text_in, truth_in, items_in, members_in, spelled_in, numeral_in, below, around, whole, u64_in, u32_in, i64_in, i32_in, id_bytes, id_in, bytes_in, double, double_by, double_in}
 use Rattle.otlp_json.specs.Objects.{Row, plain, by_row, fields, object}
 

@@ -1,13 +1,10 @@
 -- A written line is read again as the same payload.
 use Rattle.std.proofs.Common.{◌≡◌, ◌∙◌, Ok, ap}
 use Rattle.pdata_tree.specs.declared.batch.Batch.{Batch}
-use Rattle.json_text.specs.Placed.{placed}
-use Rattle.json_text.specs.Reading.{json_text}
 use Rattle.json_text.proofs.Utf8.{written_read}
 use Rattle.otlp_json.specs.declared.counts.Counts.{Counts}
 use Rattle.otlp_json.specs.Reads.{Read, ◌>>=◌}
 use Rattle.otlp_json.specs.Limits.{most_containers, none_counted}
-use Rattle.otlp_json.specs.Trees.{batch_in}
 use Rattle.otlp_json.specs.Payload.{payload_of, payload}
 use Rattle.otlp_json.specs.Line.{batch_json, line}
 use Rattle.otlp_json.specs.WellFormed.{IsPayload, size_of, plus}

@@ -1,5 +1,5 @@
 -- JSON that is written can be read again: few enough containers, numerals, and texts in UTF-8.
-use Rattle.std.proofs.Common.{◌≡◌, ◌∙◌, ℕ, ℤ, zero, suc, ◌+◌, ◌*◌, ◌-◌, ◌<◌, ◌≤◌, ◌^◌, ◌==◌, Bool, true, false, List, [], ◌∷◌, ◌++◌, Option, Some, None, map, max, nat_lt, refl, sym, ap, subst, arith, cond, pos, negsuc, inl, inr, ◌⊎◌, SFits, w32, w64, append-nil, get_or}
+use Rattle.std.proofs.Common.{◌≡◌, ◌∙◌, ℕ, ℤ, zero, suc, ◌<◌, ◌≤◌, ◌^◌, ◌==◌, Bool, true, false, List, [], ◌∷◌, ◌++◌, Option, Some, None, nat_lt, refl, sym, ap, arith, cond, pos, negsuc, inl, inr, SFits, w64, get_or}
 use Rattle.std.specs.Prelude.{◌&&◌, codes}
 use Rattle.std.specs.List.{All, list_all}
 use Rattle.std.specs.Str.{IsUtf8, IsAscii}
@@ -7,7 +7,7 @@ use Rattle.std.specs.Fmt as fmt
 use Rattle.std.specs.Str.Parse.{AllDigits}
 use Rattle.std.proofs.lemmas.Bool.Decides.{nat_tests}
 use Rattle.std.proofs.lemmas.Int.{ints}
-use Rattle.std.proofs.lemmas.List.Elements.{All-nil, All-cons, All-head, All-tail, All-append, All-map, All-weaker}
+use Rattle.std.proofs.lemmas.List.Elements.{All-nil, All-cons, All-head, All-tail, All-append}
 use Rattle.std.proofs.lemmas.Fmt.{decimal_is_IsNumeral, decimal_digit, first_decimal}
 use Rattle.std.proofs.lemmas.Str.{IsUtf8-from_ascii}
 use Rattle.std.proofs.lemmas.Str.Ascii.{IsAscii-nil, IsAscii-cons}

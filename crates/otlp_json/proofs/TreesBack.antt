@@ -1,5 +1,5 @@
 -- A written tree is read again as the same tree.
-use Rattle.std.proofs.Common.{◌≡◌, ◌∙◌, ℕ, ◌+◌, ◌<◌, ◌≤◌, ◌==◌, Bool, true, false, List, [], ◌∷◌, ◌++◌, map, length, Ok, refl, sym, ap, arith, append-nil, append_assoc, pos, replicate, cond}
+use Rattle.std.proofs.Common.{◌≡◌, ◌∙◌, ℕ, ◌<◌, ◌==◌, Bool, true, false, List, [], ◌∷◌, ◌++◌, map, Ok, refl, sym, ap, arith, append-nil, append_assoc, pos, cond}
 use Rattle.std.specs.Prelude.{codes, ℤ}
 use Rattle.std.specs.List.{All, list_all}
 use Rattle.std.specs.Ordering.{int_eq}
@@ -26,16 +26,16 @@ use Rattle.json_text.specs.Kinds.{Member}
 use Rattle.json_text.specs.declared.json.Json.{Json}
 use Rattle.json_text.proofs.KindLemmas.{is_null-Text, is_null-Number, is_null-List, is_null-Object, as_members-Object}
 use Rattle.otlp_json.specs.declared.counts.Counts.{Counts}
-use Rattle.otlp_json.specs.Reads.{Read, Reader, ◌>>=◌, each}
-use Rattle.otlp_json.specs.Limits.{most_records, most_holders, most_values, most_levels, none_counted}
-use Rattle.otlp_json.specs.Objects.{Row, fields, object, list}
-use Rattle.otlp_json.specs.Trees.{empty_record, record_table, record_in, empty_scope, scope_table, scope_in, records_in, scope_logs_table, empty_scope_logs, scope_logs_in, empty_resource, resource_table, resource_in, scopes_in, resource_logs_table, empty_resource_logs, resource_logs_in, resources_in, batch_table, empty_batch, batch_in}
+use Rattle.otlp_json.specs.Reads.{Reader}
+use Rattle.otlp_json.specs.Limits.{most_records, most_holders, most_levels, none_counted}
+use Rattle.otlp_json.specs.Objects.{fields, object, list}
+use Rattle.otlp_json.specs.Trees.{empty_record, record_table, record_in, empty_scope, scope_table, scope_in, records_in, scope_logs_table, empty_scope_logs, scope_logs_in, empty_resource, resource_table, resource_in, scopes_in, resource_logs_table, empty_resource_logs, resource_logs_in, resources_in, batch_table, batch_in}
 use Rattle.otlp_json.specs.Line.{text_json, number_json, list_json, object_json, unless, list_member, is_empty, value_json, pair_json, empty_layer, is_empty_value, record_members, record_json, scope_members, scope_logs_members, scope_logs_json, resource_members, resource_logs_members, resource_logs_json, batch_json}
-use Rattle.otlp_json.specs.WellFormed.{IsValue, IsAttributes, plus, Within, only_values, sizes, values_in_value, values_in_pairs, values_in_body, size_of_record, size_of_scope_logs, size_of_resource_logs, size_of, IsRecord, IsScope, IsScopeLogs, IsResource, IsResourceLogs, IsPayload}
+use Rattle.otlp_json.specs.WellFormed.{plus, Within, only_values, sizes, values_in_value, values_in_pairs, values_in_body, size_of_record, size_of_scope_logs, size_of_resource_logs, size_of, IsRecord, IsScope, IsScopeLogs, IsResource, IsResourceLogs, IsPayload}
 use Rattle.otlp_json.proofs.Pieces.{Piece, AreSome, members_by, present, optional, unless-is, list_member-is, optional-some, fields-present, filled, filled-step}
 use Rattle.otlp_json.proofs.PlaceFree.{members_in-Object, items_in-List}
 use Rattle.otlp_json.proofs.FieldsBack.{text_back, u64_back, u32_back, i32_back, id_back, zeros_are}
-use Rattle.otlp_json.proofs.Counting.{same_counts, plus-none, plus-assoc, one_record-is, one_holder-is}
+use Rattle.otlp_json.proofs.Counting.{same_counts, plus-none, one_record-is, one_holder-is}
 use Rattle.otlp_json.proofs.ValuesBack.{Back, each-back, value_json-some, value-back, attributes-back}
 
 -- What is left out.

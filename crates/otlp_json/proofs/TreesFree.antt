@@ -1,12 +1,7 @@
 -- A payload is read as before wherever it stands.
-use Rattle.std.proofs.Common.{◌≡◌, ◌∙◌, ℕ, ◌+◌, ◌^◌, List, [], ◌∷◌, length, map, Ok, Err, Some, None, Option, refl, sym, ap, cond, nat_lt}
+use Rattle.std.proofs.Common.{◌≡◌, ◌∙◌, ℕ, ◌+◌, List, [], map, Ok, Err, Some, None, Option, refl, ap, nat_lt}
 use Rattle.std.specs.Prelude.{codes}
 use Rattle.pdata_tree.specs.declared.batch.Batch.{Batch}
-use Rattle.pdata_tree.specs.declared.resource.ResourceNode.{ResourceNode}
-use Rattle.pdata_tree.specs.declared.resource.ResourceTree.{ResourceTree}
-use Rattle.pdata_tree.specs.declared.scope.ScopeNode.{ScopeNode}
-use Rattle.pdata_tree.specs.declared.scope.ScopeTree.{ScopeTree}
-use Rattle.pdata_tree.specs.declared.record.LogRecord.{LogRecord}
 use Rattle.json_text.specs.Kinds.{Member, as_members}
 use Rattle.json_text.specs.Placed.{Placing, placed_items, placing, placed}
 use Rattle.json_text.specs.declared.json.Json.{Json}
@@ -18,10 +13,10 @@ use Rattle.otlp_json.specs.declared.error.PayloadKind.TheVariants.{TooMany, NotO
 use Rattle.otlp_json.specs.Reads.{Read, Reader, wrong, or_wrong, ◌>>=◌, each}
 use Rattle.otlp_json.specs.Limits.{most_records, most_holders, most_levels, one_record, one_holder}
 use Rattle.otlp_json.specs.Fields.{text_in, u64_in, u32_in, i32_in, id_in, items_in}
-use Rattle.otlp_json.specs.Objects.{fields, object, list}
+use Rattle.otlp_json.specs.Objects.{fields, list}
 use Rattle.otlp_json.specs.Values.{value_in, pairs_in}
 use Rattle.otlp_json.specs.Trees.{empty_record, record_table, record_in, empty_scope, scope_table, scope_in, records_in, scope_logs_table, empty_scope_logs, scope_logs_in, empty_resource, resource_table, resource_in, scopes_in, resource_logs_table, empty_resource_logs, resource_logs_in, resources_in, batch_table, empty_batch, batch_in}
-use Rattle.otlp_json.proofs.PlaceFree.{bind-free, test-free, or_wrong-back, text-free, u64-free, u32-free, i32-free, id-free, items-back, items_in-List, placed_all, FreeRows, plain-free, fields-free, object-free}
+use Rattle.otlp_json.proofs.PlaceFree.{bind-free, test-free, text-free, u64-free, u32-free, i32-free, id-free, items-back, items_in-List, placed_all, FreeRows, plain-free, fields-free, object-free}
 use Rattle.otlp_json.proofs.ValuesFree.{ReaderFree, nested-free, each-free, value-free, pairs_by-free}
 
 module _ {X : Type 0} (one : Reader X) (free : ReaderFree one) where

@@ -1,5 +1,5 @@
 -- A written payload can be read again as JSON.
-use Rattle.std.proofs.Common.{◌≡◌, ◌∙◌, ℕ, ℤ, zero, suc, ◌+◌, ◌*◌, ◌<◌, ◌≤◌, ◌^◌, ◌==◌, Bool, false, List, [], ◌∷◌, ◌++◌, map, refl, sym, ap, subst, arith, pos, SFits, w32, w64}
+use Rattle.std.proofs.Common.{◌≡◌, ◌∙◌, ℕ, ℤ, zero, suc, ◌*◌, ◌<◌, ◌^◌, ◌==◌, false, List, [], ◌∷◌, map, refl, sym, subst, arith, pos, SFits, w32, w64}
 use Rattle.std.specs.Prelude.{codes}
 use Rattle.std.specs.List.{All, list_all}
 use Rattle.std.specs.Str.{IsUtf8}
@@ -23,14 +23,12 @@ use Rattle.pdata_tree.specs.declared.resource.ResourceTree.{ResourceTree}
 use Rattle.pdata_tree.specs.declared.scope.ScopeNode.{ScopeNode}
 use Rattle.pdata_tree.specs.declared.scope.ScopeTree.{ScopeTree}
 use Rattle.pdata_tree.specs.declared.record.LogRecord.{LogRecord}
-use Rattle.json_text.specs.Kinds.{Member}
 use Rattle.json_text.specs.declared.json.Json.{Json}
 use Rattle.otlp_json.specs.Limits.{most_levels}
-use Rattle.otlp_json.specs.Line.{text_json, number_json, truth_json, list_json, object_json, one_json, list_member, is_empty, is_empty_value, values_json, pair_of, double_json, value_json, pair_json, record_members, record_json, scope_members, scope_logs_members, scope_logs_json, resource_members, resource_logs_members, resource_logs_json, batch_json}
+use Rattle.otlp_json.specs.Line.{text_json, number_json, truth_json, list_json, object_json, one_json, list_member, is_empty, is_empty_value, values_json, double_json, value_json, pair_json, record_members, record_json, scope_members, scope_logs_members, scope_logs_json, resource_members, resource_logs_members, resource_logs_json, batch_json}
 use Rattle.otlp_json.specs.WellFormed.{holds, IsValue, IsAttributes, IsRecord, IsScope, IsScopeLogs, IsResource, IsResourceLogs, IsPayload}
-use Rattle.otlp_json.proofs.Pieces.{present}
 use Rattle.otlp_json.proofs.ValueJson.{value_json-Empty, value_json-Text, value_json-Truth, value_json-Int, value_json-Double, value_json-Bytes, value_json-List, value_json-Map}
-use Rattle.otlp_json.proofs.Sound.{Sound, SoundMembers, SoundPieces, sound-deeper, members-deeper, sound-text, sound-number, sound-truth, sound-list, sound-object, members-none, members-cons, present-sound, sound-optional, utf8-is, utf8-hex, utf8-base64, numeral-decimal, numeral-signed, utf8-decimal, utf8-signed, sound-double}
+use Rattle.otlp_json.proofs.Sound.{Sound, SoundMembers, sound-deeper, sound-text, sound-number, sound-truth, sound-list, sound-object, members-none, members-cons, present-sound, sound-optional, utf8-is, utf8-hex, utf8-base64, numeral-decimal, numeral-signed, utf8-decimal, utf8-signed, sound-double}
 use Rattle.otlp_json.proofs.TreesBack.{record_pieces, record_present, scope_pieces, scope_present, resource_pieces, resource_present, scope_logs_pieces, scope_logs_present, resource_logs_pieces, resource_logs_present}
 
 -- Values: a level takes at most four containers.

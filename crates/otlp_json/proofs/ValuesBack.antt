@@ -1,8 +1,8 @@
 -- A written value is read again as the same value.
-use Rattle.std.proofs.Common.{◌≡◌, ◌∙◌, ℕ, zero, suc, ◌+◌, ◌<◌, ◌≤◌, Bool, true, false, not, List, [], ◌∷◌, ◌++◌, map, Option, Some, None, Ok, refl, sym, ap, subst, arith, append-nil, append_assoc}
-use Rattle.std.specs.Prelude.{codes, cond, ◌&&◌}
+use Rattle.std.proofs.Common.{◌≡◌, ◌∙◌, ℕ, zero, suc, ◌+◌, ◌<◌, ◌≤◌, Bool, true, false, List, [], ◌∷◌, ◌++◌, map, Ok, refl, sym, ap, arith, append-nil, append_assoc}
+use Rattle.std.specs.Prelude.{codes, cond}
 use Rattle.std.specs.List.{All}
-use Rattle.std.specs.Str.{IsUtf8, bytes_eq}
+use Rattle.std.specs.Str.{IsUtf8}
 use Rattle.std.proofs.lemmas.List.Elements.{All-head, All-tail, All-weaker}
 use Rattle.std.specs.Fmt.{signed_decimal}
 use Rattle.base64.specs.Engines.{standard}
@@ -12,20 +12,18 @@ use Rattle.pdata_value.specs.declared.value.Value.{Value, roll-Value, out-Value}
 use Rattle.pdata_value.specs.declared.value.Value.TheOpen.{Value-F}
 use Rattle.pdata_value.specs.declared.value.Value.TheVariants as values
 use Rattle.pdata_value.specs.declared.value.Value.TheViews.{roll-out-Value}
-use Rattle.pdata_value.specs.declared.value.Value.TheFolds.{map-Value, fold_out-Value}
+use Rattle.pdata_value.specs.declared.value.Value.TheFolds.{fold_out-Value}
 use Rattle.pdata_value.specs.declared.values.Values.{Values}
 use Rattle.pdata_value.specs.declared.pairs.Pairs.{Pairs}
-use Rattle.json_text.specs.Kinds.{Member, is_null}
-use Rattle.json_text.specs.Members.{has_standing}
+use Rattle.json_text.specs.Kinds.{is_null}
 use Rattle.json_text.specs.declared.json.Json.{Json}
 use Rattle.json_text.proofs.KindLemmas.{is_null-Text, is_null-Number, is_null-Truth, is_null-List, is_null-Object}
 use Rattle.otlp_json.specs.declared.counts.Counts.{Counts}
 use Rattle.otlp_json.specs.Reads.{Read, Reader, ◌>>=◌, each}
-use Rattle.otlp_json.specs.Limits.{most_values, one_value}
-use Rattle.otlp_json.specs.Fields.{members_in, items_in, text_in, truth_in, i64_in, double_in, bytes_in}
-use Rattle.otlp_json.specs.Objects.{by_key, fields, object}
-use Rattle.otlp_json.specs.Values.{is_value_key, pair_table, pair_by, array_table, map_table, value_table, value_by, value_in, pairs_by, values_by, pairs_in}
-use Rattle.otlp_json.specs.Line.{text_json, number_json, truth_json, list_json, object_json, one_json, list_member, values_json, pair_of, is_word, double_json, value_step, pairs_step, values_step, value_json, pair_json}
+use Rattle.otlp_json.specs.Limits.{most_values}
+use Rattle.otlp_json.specs.Objects.{by_key, object}
+use Rattle.otlp_json.specs.Values.{is_value_key, pair_by, array_table, map_table, value_table, value_in, pairs_by, values_by, pairs_in}
+use Rattle.otlp_json.specs.Line.{text_json, number_json, truth_json, list_json, object_json, one_json, values_json, is_word, double_json, value_step, pairs_step, values_step, value_json, pair_json}
 use Rattle.otlp_json.specs.WellFormed.{holds, IsValue, plus, Within, only_values, sizes, values_in_value, values_in_pairs, values_in_items}
 use Rattle.otlp_json.proofs.PlaceFree.{members_in-Object, items_in-List}
 use Rattle.otlp_json.proofs.FieldsBack.{text_back, truth_back, i64_back, double_back, bytes_back}

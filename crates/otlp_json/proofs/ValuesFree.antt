@@ -1,27 +1,25 @@
 -- Values and pairs are read as before wherever they stand.
-use Rattle.std.proofs.Common.{◌≡◌, ◌∙◌, ℕ, zero, suc, ◌+◌, Bool, true, false, not, List, [], ◌∷◌, ◌++◌, length, map, Option, Some, None, Ok, Err, refl, sym, ap, nat_lt}
+use Rattle.std.proofs.Common.{◌≡◌, ◌∙◌, ℕ, zero, suc, ◌+◌, Bool, true, false, not, List, [], ◌∷◌, ◌++◌, length, map, Option, Some, None, Ok, Err, refl, ap, nat_lt}
 use Rattle.std.specs.Prelude.{◌||◌, ◌&&◌, cond, codes}
 use Rattle.std.specs.Str.{bytes_eq}
 use Rattle.pdata_value.specs.Pairs.{has_key}
 use Rattle.pdata_value.specs.declared.value.Value.{Value}
 use Rattle.pdata_value.specs.declared.value.Value.TheVariants as values
-use Rattle.pdata_value.specs.declared.values.Values.{Values}
-use Rattle.pdata_value.specs.declared.pairs.Pairs.{Pairs}
 use Rattle.json_text.specs.Placed.{Placing, placed_items, behind_key, placing, placed}
 use Rattle.json_text.specs.declared.json.Json.{Json}
 use Rattle.json_text.specs.declared.json.JsonKind.TheVariants as kinds
 use Rattle.json_text.proofs.Layers.{placing-List, placing-Object}
 use Rattle.otlp_json.specs.declared.counts.Counts.{Counts}
-use Rattle.otlp_json.specs.declared.error.PayloadKind.TheVariants.{TooMany, TooDeep}
+use Rattle.otlp_json.specs.declared.error.PayloadKind.TheVariants.{TooMany}
 use Rattle.otlp_json.specs.Reads.{Read, Reader, wrong, ◌>>=◌, each}
-use Rattle.json_text.specs.Kinds.{Member, as_items, is_null}
+use Rattle.json_text.specs.Kinds.{Member, is_null}
 use Rattle.json_text.specs.Members.{stands, has_standing, last_standing}
 use Rattle.otlp_json.specs.Limits.{most_values, level, one_value}
 use Rattle.otlp_json.specs.Fields.{text_in, i64_in, double_in, bytes_in, items_in, members_in}
-use Rattle.otlp_json.specs.Objects.{Row, plain, nested, by_key, fields, object}
+use Rattle.otlp_json.specs.Objects.{Row, nested, by_key, fields, object}
 use Rattle.otlp_json.specs.Values.{is_value_key, pair_table, absent_value, pair_by, pairs_by, values_by, array_table, map_table, value_table, only, value_by, value_in}
 use Rattle.json_text.proofs.NullPlaces.{null-placed}
-use Rattle.otlp_json.proofs.PlaceFree.{PlaceFree, bind-free, test-free, text-free, truth-free, i64-free, double-free, bytes-free, items-back, items_in-List, members-back, members_in-Object, placed_all, behind_member, has_key-placed, FreeRow, FreeRows, plain-free, fields-free, object-free}
+use Rattle.otlp_json.proofs.PlaceFree.{bind-free, test-free, text-free, truth-free, i64-free, double-free, bytes-free, items-back, items_in-List, members-back, members_in-Object, placed_all, behind_member, has_key-placed, FreeRow, FreeRows, plain-free, fields-free, object-free}
 
 abbrev pub ReaderFree : {X : Type 0} → Reader X → Type 0
 ReaderFree {X} one = (json : Json) (at : ℕ) (n : Counts) (p : X × Counts) → one json n ≡ Ok p → one (placed at json) n ≡ Ok p

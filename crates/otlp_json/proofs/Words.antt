@@ -1,6 +1,6 @@
 -- The text of values of JSON, and members that are added one after another.
-use Rattle.std.proofs.Common.{◌≡◌, ◌∙◌, ◌≤◌, ◌<◌, ◌==◌, ◌+◌, ◌/◌, ◌%◌, ◌⊎◌, inl, inr, ℕ, zero, suc, Bool, true, false, List, [], ◌∷◌, ◌++◌, map, drop, length, refl, sym, ap, append_assoc, append-nil, arith, cond, get_or, slice_index, drop-cons}
-use Rattle.std.specs.Prelude.{◌&&◌, codes, ℤ, pos, negsuc}
+use Rattle.std.proofs.Common.{◌≡◌, ◌∙◌, ◌≤◌, ◌<◌, ◌==◌, ◌+◌, ◌/◌, ◌%◌, inl, inr, ℕ, zero, suc, Bool, true, false, List, [], ◌∷◌, ◌++◌, map, drop, length, refl, sym, ap, append_assoc, append-nil, arith, cond, get_or, slice_index, drop-cons}
+use Rattle.std.specs.Prelude.{◌&&◌, codes, ℤ, pos}
 use Rattle.std.specs.Ordering.{int_eq}
 use Rattle.std.specs.List.{list_all}
 use Rattle.std.proofs.lemmas.List.{drop_all}
@@ -10,7 +10,7 @@ use Rattle.std.proofs.lemmas.Bool.{and_parts, cases_lt}
 use Rattle.hex.specs.Hex.{lower_digits, encode_lower, encode_with}
 use Rattle.json_text.specs.Kinds.{Member}
 use Rattle.json_text.specs.Reading.{is_plain}
-use Rattle.json_text.specs.Writing.{bytes_text, byte_text, quoted_text, truth_text, listed_from, comma_before, text_of}
+use Rattle.json_text.specs.Writing.{bytes_text, quoted_text, truth_text, listed_from, comma_before, text_of}
 use Rattle.json_text.specs.declared.json.Json.{Json}
 use Rattle.json_text.proofs.Written.{pair_text, text-Truth, text-Number, text-Text, text-List, text-Object}
 use Rattle.otlp_json.specs.Line.{text_json, number_json, truth_json, list_json, object_json, unless, list_member, one_json, values_json, pair_of, is_empty, is_word, double_json}

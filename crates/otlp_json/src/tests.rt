@@ -14,7 +14,7 @@ const BEHIND_RECORD: &str = "]}]}]}";
 
 /// The written form of a line, or its fault.
 fn answer(rt: &impl Abort, alloc: Global, line: &[u8]) -> Result<Vec<u8>, AllocError> {
-    assert!(rt; line.len() < 10_000);
+    assert!(rt; line.len() <= 16_777_216);
     match read_payload(alloc, line) {
         Ok(batch) => write_line(alloc, &batch),
         Err(PayloadStop::Fault(fault)) => {
@@ -257,6 +257,56 @@ fn each_proper_front_is_refused_at_its_length(rt: HostRuntime) -> Result<(), Fai
         let fault = format!(in rt.alloc(); "BadJson at {count}")?;
         let found = answer(&rt, rt.alloc(), front)?;
         assert_eq!(rt; found.as_slice(), fault.as_bytes());
+    }
+    Ok(())
+}
+
+/// So many elements between a front and a back.
+fn filled(
+    alloc: Global,
+    front: &str,
+    element: &str,
+    back: &str,
+    count: usize,
+) -> Result<String, AllocError> {
+    let mut line = String::from_str(alloc, front)?;
+    for index in 0..count {
+        if index > 0 {
+            line.push_str(",")?;
+        }
+        line.push_str(element)?;
+    }
+    line.push_str(back)?;
+    Ok(line)
+}
+
+#[test]
+fn payloads_are_refused_past_their_limits(rt: HostRuntime) -> Result<(), Fail> {
+    let records = (BEFORE_RECORD, "{}", BEHIND_RECORD);
+    let elements = ("{\"resourceLogs\":[", "{}", "]}");
+    let pairs = (
+        r#"{"resourceLogs":[{"resource":{},"scopeLogs":[{"scope":{},"logRecords":[{"body":{"kvlistValue":{"values":["#,
+        "{}",
+        "]}}}]}]}]}",
+    );
+    let written = (pairs.0, r#"{"key":"","value":{}}"#, pairs.2);
+    // The front of the answer; what is accepted is written.
+    let table = [
+        (records, 32_768, "{\"resourceLogs\":[{"),
+        (records, 32_769, "TooMany at 98375"),
+        (elements, 32_768, "{\"resourceLogs\":[{"),
+        (elements, 32_769, "TooMany at 98321"),
+        (pairs, 499_999, "{\"resourceLogs\":[{"),
+        (written, 499_999, "{\"resourceLogs\":[{"),
+        (pairs, 500_000, "TooMany at 1500102"),
+    ];
+    for ((front, element, back), count, wanted) in table {
+        let line = filled(rt.alloc(), front, element, back, count)?;
+        let found = answer(&rt, rt.alloc(), line.as_bytes())?;
+        assert!(rt;
+            found.as_slice().starts_with(wanted.as_bytes()),
+            "{element} {count} times"
+        );
     }
     Ok(())
 }

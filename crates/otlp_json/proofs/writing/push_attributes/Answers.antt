@@ -1,4 +1,4 @@
-use Rattle.std.proofs.Common.{◌≡◌, ◌==◌, ◌++◌, ◌∙◌, List, ℕ, length, codes, sym, ap}
+use Rattle.std.proofs.Common.{◌++◌, ◌∙◌, List, ℕ, length, codes, sym, ap}
 use Rattle.pdata_value.specs.Value.{pairs}
 use Rattle.otlp_json.specs.Line.{pair_json}
 use Rattle.otlp_json.specs.Adding.{listed}

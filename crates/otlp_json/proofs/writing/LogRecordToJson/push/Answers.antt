@@ -1,4 +1,3 @@
-use Rattle.std.proofs.Common.{codes}
 use Rattle.otlp_json.specs.Line.{record_members, record_json}
 use Rattle.otlp_json.proofs.Words.{closed}
 use Rattle.otlp_json.proofs.writing.LogRecordToJson.push.Goals as goal

@@ -1,5 +1,5 @@
 use Rattle.std.proofs.Common.{◌++◌, ◌∷◌, [], map, codes}
-use Rattle.std.specs.Prelude.{false, true}
+use Rattle.std.specs.Prelude.{false}
 use Rattle.otlp_json.specs.Line.{text_member, list_member, object_json, resource_members, resource_logs_members, resource_logs_json, scope_logs_json}
 use Rattle.otlp_json.proofs.Words.{Adds-append, Adds-one, closed}
 use Rattle.otlp_json.proofs.writing.ResourceTreeToJson.push.Goals as goal

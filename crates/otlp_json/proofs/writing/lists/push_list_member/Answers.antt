@@ -1,4 +1,4 @@
-use Rattle.std.proofs.Common.{◌∙◌, sym}
+use Rattle.std.proofs.Common.{sym}
 use Rattle.otlp_json.proofs.Words.{Adds-list, some_items}
 use Rattle.otlp_json.proofs.writing.lists.push_list_member.Goals as goal
 

@@ -1,7 +1,7 @@
 use Rattle.std.proofs.Common.{◌≡◌, ◌==◌, ◌++◌, ◌∙◌, List, ℕ, codes, sym, ap, arith}
 use Rattle.std.specs.List.{list_all}
 use Rattle.hex.specs.Hex.{encode_lower}
-use Rattle.json_text.specs.Writing.{quoted_text, bytes_text}
+use Rattle.json_text.specs.Writing.{bytes_text}
 use Rattle.otlp_json.specs.Line.{text_json}
 use Rattle.otlp_json.proofs.Words.{text_of-text, Adds-present, bytes_text-plain, plain_hex}
 use Rattle.otlp_json.proofs.writing.members.push_id_bytes.Goals as goal

@@ -1,5 +1,5 @@
 use Rattle.std.proofs.Common.{◌≡◌, ◌++◌, ◌∙◌, List, ℕ, codes, sym, ap, append_assoc}
-use Rattle.json_text.specs.Writing.{quoted_text, bytes_text}
+use Rattle.json_text.specs.Writing.{bytes_text}
 use Rattle.otlp_json.specs.Adding.{comma_if}
 use Rattle.otlp_json.proofs.Words.{three_pushed, two_pushed, bytes_text-plain}
 use Rattle.otlp_json.proofs.writing.members.push_key.Goals as goal

@@ -1,5 +1,5 @@
-use Rattle.std.proofs.Common.{◌≡◌, ◌==◌, ◌++◌, ◌∙◌, ◌<◌, List, ℕ, length, codes, refl, sym, ap, false}
-use Rattle.json_text.specs.Writing.{quoted_text, text_of}
+use Rattle.std.proofs.Common.{◌≡◌, ◌++◌, ◌∙◌, List, ℕ, codes, refl, sym, ap}
+use Rattle.json_text.specs.Writing.{text_of}
 use Rattle.json_text.proofs.Written.{appended}
 use Rattle.otlp_json.specs.Line.{value_json, pair_json}
 use Rattle.otlp_json.specs.Adding.{pair_front}

@@ -1,4 +1,4 @@
-use Rattle.std.proofs.Common.{◌∙◌, codes, refl, sym, ap}
+use Rattle.std.proofs.Common.{codes, refl, ap}
 use Rattle.json_text.specs.Writing.{text_of}
 use Rattle.otlp_json.specs.Line.{double_json}
 use Rattle.otlp_json.proofs.Words.{one-pushed}

@@ -1,4 +1,4 @@
-use Rattle.std.proofs.Common.{◌≡◌, ◌∙◌, ℤ, codes, refl, sym, ap, to_z-of_z, SFits, w64, to_z, of_z}
+use Rattle.std.proofs.Common.{◌≡◌, ◌∙◌, codes, refl, sym, ap, to_z-of_z, SFits, w64, to_z, of_z}
 use Rattle.std.specs.Fmt.{signed_decimal}
 use Rattle.json_text.specs.Writing.{quoted_text}
 use Rattle.otlp_json.specs.Line.{text_json}
