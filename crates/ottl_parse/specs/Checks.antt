@@ -1,4 +1,5 @@
--- Where conditions and values may stand: the first that stands where the other is wanted, from the left.
+-- Where conditions and values may stand: the first that stands where the other is wanted, from the
+-- left.
 use Rattle.std.specs.Prelude.{ℕ, Bool, true, false, cond, List, [], ◌∷◌, map, Result, Ok, Err}
 use Rattle.std.specs.Char.{is_ascii_uppercase}
 use Rattle.ottl_lex.specs.Quoted.{fault, ◌>>=◌}
@@ -76,22 +77,25 @@ kind_step (ExprKind-F.And checks) at w = condition_at at w >>= λ _. as_conditio
 kind_step (ExprKind-F.Or checks) at w = condition_at at w >>= λ _. as_conditions checks
 
 -- whether the name is upper, and the arguments
-abbrev pub call_step : Call-F (ℕ → Checks) (Bool × Checked) Checked Checks Checked Checked → Bool × Checked
+abbrev pub call_step : Call-F (ℕ → Checks) (Bool × Checked) Checked Checks Checked Checked
+    → Bool × Checked
 call_step call = (is_upper call.name, as_values call.arguments)
 
-abbrev pub compare_step : Compare-F (ℕ → Checks) (Bool × Checked) Checked Checks Checked Checked → Checked
+abbrev pub compare_step : Compare-F (ℕ → Checks) (Bool × Checked) Checked Checks Checked Checked
+    → Checked
 compare_step compare = compare.left wanted.Value >>= λ _. compare.right wanted.Value
 
 abbrev pub expr_step : Expr-F (ℕ → Checks) (Bool × Checked) Checked Checks Checked Checked → Checks
 expr_step expr = expr.kind expr.at
 
-abbrev pub part_step : MapPart-F (ℕ → Checks) (Bool × Checked) Checked Checks Checked Checked → Checked
+abbrev pub part_step : MapPart-F (ℕ → Checks) (Bool × Checked) Checked Checks Checked Checked
+    → Checked
 part_step part = part.value wanted.Value
 
 abbrev pub term_step : Term-F (ℕ → Checks) (Bool × Checked) Checked Checks Checked Checked → Checked
 term_step term = term.expr wanted.Value
 
--- An expression where a condition or a value is wanted. Where both faults stand, the expression's own comes first, and
+-- An expression where a condition or a value is wanted. The expression's own fault comes first, and
 -- then those inside it from the left.
 unfoldable pub check : Expr → Checks
 check =
@@ -107,7 +111,8 @@ kind_check =
 -- both sides of a comparison
 abbrev pub check_sides : Compare → Checked
 check_sides compare =
-    check (out-Compare compare).left wanted.Value >>= λ _. check (out-Compare compare).right wanted.Value
+    check (out-Compare compare).left wanted.Value
+    >>= λ _. check (out-Compare compare).right wanted.Value
 
 -- the arguments of a call
 abbrev pub check_arguments : Call → Checked

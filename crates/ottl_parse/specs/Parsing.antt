@@ -1,5 +1,6 @@
--- What a text is parsed as, or its first fault: the first of its tokens, then the first among tokens that don't spell a
--- statement or go past a limit, then the first condition or value in the other's place.
+-- What a text is parsed as, or its first fault: the first of its tokens, then the first among tokens
+-- that don't spell a statement or go past a limit, then the first condition or value in the other's
+-- place.
 use Rattle.std.specs.Prelude.{ℕ, cond, ◌==◌, ◌||◌, List, length, Option, Some, None, Result, Ok}
 use Rattle.ottl_lex.specs.Codes.{lower, upper, where_word}
 use Rattle.ottl_lex.specs.Quoted.{◌>>=◌}
@@ -26,7 +27,8 @@ condition r = disjunction (inside_of max_open) r >>= λ e. Ok (record { expr = e
 unfoldable pub call : Rest → Reads Call
 call r =
     cond (head r == lower || head r == upper)
-    (cond (head (past r) == 40) (call_behind (inside_of max_open) (place r) (slice r) (past r)) (stops Unexpected (past r)))
+    (cond (head (past r) == 40)
+    (call_behind (inside_of max_open) (place r) (slice r) (past r)) (stops Unexpected (past r)))
     (stops Unexpected r)
 
 -- a call, and a condition behind `where`
@@ -48,12 +50,14 @@ check_optional None = Ok tt
 check_optional (Some condition) = check_condition condition
 
 abbrev pub check_statement : Statement → Checked
-check_statement statement = check_arguments statement.call >>= λ _. check_optional statement.condition
+check_statement statement =
+    check_arguments statement.call >>= λ _. check_optional statement.condition
 
 -- what is read from the whole text, if all in it stands where it may
 abbrev pub parsed : {X : Type 0} → (Rest → Reads X) → (X → Checked) → List ℕ → Result X SyntaxFault
 parsed read well text =
-    tokens_of text >>= λ tokens. read (record { text = text; left = tokens }) >>= λ p. at_end p.1 >>= λ _. well p.0 >>= λ _. Ok p.0
+    tokens_of text >>= λ tokens. read (record { text = text; left = tokens })
+    >>= λ p. at_end p.1 >>= λ _. well p.0 >>= λ _. Ok p.0
 
 unfoldable pub statement_of : List ℕ → Result Statement SyntaxFault
 statement_of text = parsed statement check_statement text

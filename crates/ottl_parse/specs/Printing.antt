@@ -117,8 +117,8 @@ sign_text signs.AtMost = codes " <= "
 sign_text signs.Greater = codes " > "
 sign_text signs.AtLeast = codes " >= "
 
--- How tightly an expression binds, as the grammar's levels do, and its text: 0 for `or`, 1 for `and`, 2 for `not`, 3 for a
--- comparison, 4 for a sum, 5 for a product, 6 for all else.
+-- How tightly an expression binds, as the grammar's levels do, and its text: 0 for `or`, 1 for `and`,
+-- 2 for `not`, 3 for a comparison, 4 for a sum, 5 for a product, 6 for all else.
 abbrev pub Printed : Type 0
 Printed = ℕ × List ℕ
 
@@ -136,7 +136,8 @@ terms_text level terms = listed (map (λ t. piece (sign_text t.0) (at_level leve
 
 -- the layers of an expression, by what is printed of what they hold
 
-abbrev pub kind_step : ExprKind-F Printed (List ℕ) (List ℕ) Printed (List ℕ) (Sign × Printed) → Printed
+abbrev pub kind_step : ExprKind-F Printed (List ℕ) (List ℕ) Printed (List ℕ) (Sign × Printed)
+    → Printed
 kind_step (ExprKind-F.Literal value) = (6, literal_text value)
 kind_step (ExprKind-F.List exprs) = (6, codes "[" ++ exprs_text (codes ", ") 0 exprs ++ codes "]")
 kind_step (ExprKind-F.Map parts) = (6, codes "{" ++ separated (codes ", ") parts ++ codes "}")
@@ -153,16 +154,19 @@ kind_step (ExprKind-F.Or exprs) = (0, exprs_text (codes " or ") 1 exprs)
 abbrev pub call_step : Call-F Printed (List ℕ) (List ℕ) Printed (List ℕ) (Sign × Printed) → List ℕ
 call_step call = call.name ++ codes "(" ++ exprs_text (codes ", ") 0 call.arguments ++ codes ")"
 
-abbrev pub compare_step : Compare-F Printed (List ℕ) (List ℕ) Printed (List ℕ) (Sign × Printed) → List ℕ
+abbrev pub compare_step : Compare-F Printed (List ℕ) (List ℕ) Printed (List ℕ) (Sign × Printed)
+    → List ℕ
 compare_step compare = at_level 4 compare.left ++ sign_text compare.sign ++ at_level 4 compare.right
 
 abbrev pub expr_step : Expr-F Printed (List ℕ) (List ℕ) Printed (List ℕ) (Sign × Printed) → Printed
 expr_step expr = expr.kind
 
-abbrev pub part_step : MapPart-F Printed (List ℕ) (List ℕ) Printed (List ℕ) (Sign × Printed) → List ℕ
+abbrev pub part_step : MapPart-F Printed (List ℕ) (List ℕ) Printed (List ℕ) (Sign × Printed)
+    → List ℕ
 part_step part = quoted_text part.key ++ codes ": " ++ at_level 0 part.value
 
-abbrev pub term_step : Term-F Printed (List ℕ) (List ℕ) Printed (List ℕ) (Sign × Printed) → Sign × Printed
+abbrev pub term_step : Term-F Printed (List ℕ) (List ℕ) Printed (List ℕ) (Sign × Printed)
+    → Sign × Printed
 term_step term = (term.sign, term.expr)
 
 unfoldable pub printed : Expr → Printed
@@ -187,7 +191,8 @@ call_text =
 -- both sides of a comparison and its sign
 abbrev pub compare_text : Compare → List ℕ
 compare_text compare =
-    expr_text 4 (out-Compare compare).left ++ sign_text (out-Compare compare).sign ++ expr_text 4 (out-Compare compare).right
+    let sides = out-Compare compare in
+    expr_text 4 sides.left ++ sign_text sides.sign ++ expr_text 4 sides.right
 
 -- a key of a map and its value
 abbrev pub part_text : MapPart → List ℕ

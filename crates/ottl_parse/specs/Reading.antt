@@ -1,5 +1,5 @@
--- Reading from tokens: what they spell, or the first fault with its place, whatever stands where a condition or a value
--- is wanted.
+-- Reading from tokens: what they spell, or the first fault with its place, whatever stands where a
+-- condition or a value is wanted.
 use Rattle.std.specs.Prelude.{ℕ, zero, suc, ◌^◌, ℤ, pos, neg_ℤ, Bool, true, false, cond, ◌==◌, ◌||◌, nat_lt, nat_le, List, [], ◌∷◌, ◌++◌, length, Option, Some, None, Result, Ok, Err}
 use Rattle.ottl_lex.specs.Codes.{lower, upper, quoted, digits, hex, and_word, or_word, not_word, true_word, false_word, nil_word, equal, unequal, at_most, at_least}
 use Rattle.ottl_lex.specs.Numbers.{digits_value, literal_bytes}
@@ -43,17 +43,19 @@ this code r = cond (head r == code) (Ok (past r)) (stops Unexpected r)
 abbrev pub bytes_of : ℕ → Rest → Reads (List ℕ)
 bytes_of code r = cond (head r == code) (Ok (slice r, past r)) (stops Unexpected r)
 
--- Pieces for as long as one that begins with such a token is next. The number bounds them: as many as the tokens are
--- always enough.
+-- Pieces for as long as one that begins with such a token is next. The number bounds them: as many
+-- as the tokens are always enough.
 unfoldable pub pieces : {X : Type 0} → (ℕ → Bool) → (Rest → Reads X) → ℕ → Rest → Reads (List X)
 pieces begins one zero r = Ok ([], r)
 pieces begins one (suc n) r =
-    cond (begins (head r)) (one r >>= λ p. with_front (p.0 ∷ []) (pieces begins one n p.1)) (Ok ([], r))
+    cond (begins (head r))
+    (one r >>= λ p. with_front (p.0 ∷ []) (pieces begins one n p.1)) (Ok ([], r))
 
 -- elements with commas between them, up to the token that closes, and that token
 abbrev pub elements : {X : Type 0} → (Rest → Reads X) → ℕ → Rest → Reads (List X)
 elements one close r =
-    one r >>= λ p. with_front (p.0 ∷ []) (pieces (λ c. c == 44) (λ q. one (past q)) (length p.1.left) p.1)
+    one r >>= λ p.
+    with_front (p.0 ∷ []) (pieces (λ c. c == 44) (λ q. one (past q)) (length p.1.left) p.1)
     >>= λ all. this close all.1 >>= λ e. Ok (all.0, e)
 
 -- the same behind the token that opens, where there may be none
@@ -78,12 +80,14 @@ or_wide None r = stops Wide r
 
 -- digits behind a sign, which is a minus or not
 unfoldable pub number : Bool → Rest → Reads ℤ
-number minus r = cond (head r == digits) (or_wide (signed minus (digits_value (slice r))) r) (stops Unexpected r)
+number minus r =
+    cond (head r == digits) (or_wide (signed minus (digits_value (slice r))) r) (stops Unexpected r)
 
 -- a number that is a key of a path
 unfoldable pub index : Rest → Reads ℕ
 index r =
-    cond (head r == digits) (cond (nat_lt (digits_value (slice r)) (2 ^ 63)) (Ok (digits_value (slice r), past r)) (stops Wide r))
+    let value = digits_value (slice r) in
+    cond (head r == digits) (cond (nat_lt value (2 ^ 63)) (Ok (value, past r)) (stops Wide r))
     (stops Unexpected r)
 
 -- this value for the next token
@@ -107,7 +111,8 @@ literal r =
 
 -- Constructs: parentheses, those of calls included, brackets, braces and `not`.
 
--- how the token that opens a construct is read, and then an expression and an operand of `not` inside the construct
+-- how the token that opens a construct is read, and then an expression and an operand of `not`
+-- inside the construct
 pub record Inside : Type 0 where
   pub opening : Rest → Result Rest SyntaxFault
   pub expr : Rest → Reads Expr
@@ -122,7 +127,8 @@ further_name r = bytes_of lower (past r)
 -- a text or a number
 abbrev pub key_inside : Rest → Reads PathKey
 key_inside r =
-    cond (head r == quoted) (text r >>= λ t. Ok (keys.Name t.0, t.1)) (index r >>= λ n. Ok (keys.Index n.0, n.1))
+    cond (head r == quoted)
+    (text r >>= λ t. Ok (keys.Name t.0, t.1)) (index r >>= λ n. Ok (keys.Index n.0, n.1))
 
 -- a key in its brackets
 unfoldable pub key : Inside → Rest → Reads PathKey
@@ -144,11 +150,13 @@ within inside one close r = inside.opening r >>= sequence one close
 -- the arguments of a call in their parentheses, behind its name
 abbrev pub call_behind : Inside → ℕ → List ℕ → Rest → Reads Call
 call_behind inside at name r =
-    within inside inside.expr 41 r >>= λ p. Ok (roll-Call (record { at = at; name = name; arguments = p.0 }), p.1)
+    within inside inside.expr 41 r >>= λ p.
+    Ok (roll-Call (record { at = at; name = name; arguments = p.0 }), p.1)
 
 -- a part of a map: a text, a colon and an expression
 unfoldable pub part : (Rest → Reads Expr) → Rest → Reads MapPart
-part one r = text r >>= λ k. this 58 k.1 >>= one >>= λ v. Ok (record { key = k.0; value = v.0 }, v.1)
+part one r =
+    text r >>= λ k. this 58 k.1 >>= one >>= λ v. Ok (record { key = k.0; value = v.0 }, v.1)
 
 -- an expression in parentheses, which leave no trace
 abbrev pub group : Inside → Rest → Reads Expr
@@ -163,8 +171,10 @@ make r kind read = read >>= λ p. Ok (record { at = place r; kind = kind p.0 }, 
 -- what a name begins: a call where a parenthesis follows it, else a path or an enum
 unfoldable pub named : Inside → Rest → Reads ExprKind
 named inside r =
-    cond (head (past r) == 40) (call_behind inside (place r) (slice r) (past r) >>= λ c. Ok (kinds.Call c.0, c.1))
-    (cond (head r == lower) (path_behind inside (slice r) (past r) >>= λ p. Ok (kinds.Path p.0, p.1))
+    cond (head (past r) == 40)
+    (call_behind inside (place r) (slice r) (past r) >>= λ c. Ok (kinds.Call c.0, c.1))
+    (cond (head r == lower)
+    (path_behind inside (slice r) (past r) >>= λ p. Ok (kinds.Path p.0, p.1))
     (Ok (kinds.Enum (slice r), past r)))
 
 unfoldable pub primary : Inside → Rest → Reads Expr
@@ -172,10 +182,12 @@ primary inside r =
     cond (head r == 40) (group inside r)
     (cond (head r == 91) (make r kinds.List (within inside inside.expr 93 r))
     (cond (head r == 123) (make r kinds.Map (within inside (part inside.expr) 125 r))
-    (cond (head r == lower || head r == upper) (make r (λ k. k) (named inside r)) (make r kinds.Literal (literal r)))))
+    (cond (head r == lower || head r == upper) (make r (λ k. k) (named inside r))
+    (make r kinds.Literal (literal r)))))
 
 -- an operand; or it and further pieces, where one follows it
-abbrev pub level : {X : Type 0} → (Expr → X) → (List X → ExprKind) → (ℕ → Bool) → (Rest → Reads Expr) → (Rest → Reads X) → Rest → Reads Expr
+abbrev pub level : {X : Type 0} → (Expr → X) → (List X → ExprKind) → (ℕ → Bool)
+    → (Rest → Reads Expr) → (Rest → Reads X) → Rest → Reads Expr
 level first kind begins one more r =
     one r >>= λ p. cond (begins (head p.1))
     (make r kind (with_front (first p.0 ∷ []) (pieces begins more (length p.1.left) p.1))) (Ok p)
@@ -210,31 +222,42 @@ sum inside r =
 abbrev pub comparison_sign : ℕ → Option Sign
 comparison_sign c =
     cond (c == equal) (Some Equal) (cond (c == unequal) (Some Unequal) (cond (c == 60) (Some Less)
-    (cond (c == at_most) (Some AtMost) (cond (c == 62) (Some Greater) (cond (c == at_least) (Some AtLeast) None)))))
+    (cond (c == at_most) (Some AtMost) (cond (c == 62) (Some Greater)
+    (cond (c == at_least) (Some AtLeast) None)))))
 
 -- the left side alone, or both sides where a sign follows it
 abbrev pub compared : Rest → Expr → (Rest → Reads Expr) → Option Sign → Rest → Reads Expr
 compared r left one None q = Ok (left, q)
 compared r left one (Some sign) q =
-    make r (λ right. kinds.Compare (roll-Compare (record { sign = sign; left = left; right = right }))) (one (past q))
+    make r
+    (λ right. kinds.Compare (roll-Compare (record { sign = sign; left = left; right = right })))
+    (one (past q))
 
 unfoldable pub comparison : Inside → Rest → Reads Expr
-comparison inside r = sum inside r >>= λ p. compared r p.0 (sum inside) (comparison_sign (head p.1)) p.1
+comparison inside r =
+    sum inside r >>= λ p. compared r p.0 (sum inside) (comparison_sign (head p.1)) p.1
 
 unfoldable pub negation : Inside → Rest → Reads Expr
 negation inside r =
-    cond (head r == not_word) (make r kinds.Not (inside.opening r >>= inside.operand)) (comparison inside r)
+    cond (head r == not_word) (make r kinds.Not (inside.opening r >>= inside.operand))
+    (comparison inside r)
 
 unfoldable pub conjunction : Inside → Rest → Reads Expr
 conjunction inside r =
-    level (λ e. e) kinds.And (λ c. c == and_word) (negation inside) (λ q. negation inside (past q)) r
+    level (λ e. e) kinds.And (λ c. c == and_word) (negation inside)
+    (λ q. negation inside (past q)) r
 
 unfoldable pub disjunction : Inside → Rest → Reads Expr
 disjunction inside r =
-    level (λ e. e) kinds.Or (λ c. c == or_word) (conjunction inside) (λ q. conjunction inside (past q)) r
+    level (λ e. e) kinds.Or (λ c. c == or_word) (conjunction inside)
+    (λ q. conjunction inside (past q)) r
 
 -- inside a construct that is opened where so many may be open besides
 abbrev pub inside_of : ℕ → Inside
 inside_of zero = record { opening = stops TooDeep; expr = stops TooDeep; operand = stops TooDeep }
 inside_of (suc room) =
-    record { opening = λ r. Ok (past r); expr = disjunction (inside_of room); operand = negation (inside_of room) }
+    record {
+      opening = λ r. Ok (past r);
+      expr = disjunction (inside_of room);
+      operand = negation (inside_of room);
+    }

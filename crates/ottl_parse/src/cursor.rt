@@ -118,8 +118,8 @@ impl<'a> Cursor<'a> {
         Ok(())
     }
 
-    /// Passes the token that opens a construct where so many more may be opened, and answers how many more may be opened
-    /// inside.
+    /// Passes the token that opens a construct where so many more may be opened, and answers how
+    /// many more may be opened inside.
     pub(crate) fn open_one(&mut self, room: u32) -> Result<u32, SyntaxFault>
         requires { 0 < head self.old }
         ensures gives { Gives (λ _. self.new) Some result ((inside_of room).opening self.old) }

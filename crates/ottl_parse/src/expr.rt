@@ -12,8 +12,8 @@ pub type MapParts = ItemList<MapPart>;
 
 pub type Terms = ItemList<Term>;
 
-/// A condition or a value, and the place of its first token. Parentheses round the whole of it leave no trace, so that
-/// its first token is the first one inside them.
+/// A condition or a value, and the place of its first token. Parentheses round the whole of it
+/// leave no trace, so that its first token is the first one inside them.
 #[cycle(expr)]
 #[derive(Drop)]
 pub struct Expr {
@@ -21,8 +21,8 @@ pub struct Expr {
     pub kind: ExprKind,
 }
 
-/// A sum, a product, an `and` and an `or` have two terms or more, as the text has them: what parentheses group is a term
-/// of its own.
+/// A sum, a product, an `and` and an `or` have two terms or more, as the text has them: what
+/// parentheses group is a term of its own.
 #[cycle(expr)]
 #[derive(Drop)]
 pub enum ExprKind {

@@ -15,7 +15,7 @@ mod sign;
 mod statement;
 
 pub use expr::{Call, Compare, Expr, ExprKind, Exprs, MapPart, MapParts, Term, Terms};
-pub use laws::what_is_parsed_is_spelled;
+pub use laws::{faults_stand_behind_viable_prefixes, what_is_parsed_is_spelled};
 pub use parse::{parse_condition, parse_statement};
 pub use path::{Names, Path, PathKey, PathKeys};
 pub use print::print_statement;

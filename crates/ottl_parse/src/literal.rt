@@ -55,7 +55,8 @@ fn signed(minus: bool, digits: &[u8]) -> Option<i64>
 // Digits behind a sign, which is a minus or not.
 #[tactic(auto, unfolding(crate::specs::Reading::number))]
 fn number(cursor: &mut Cursor<'_>, minus: bool) -> Result<i64, SyntaxFault>
-    ensures gives { Gives (λ number. (number, cursor.new)) Some result (spec.number minus cursor.old) }
+    ensures gives { Gives (λ number. (number, cursor.new)) Some result
+        (spec.number minus cursor.old) }
     ensures shorter { OnOk result (length cursor.new.left < length cursor.old.left) }
 {
     if cursor.peek() != codes::DIGITS {

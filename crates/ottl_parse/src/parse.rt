@@ -15,7 +15,8 @@ use ottl_lex::{MAX_TEXT, SyntaxKind, SyntaxStop, codes, lex};
 use pdata_value::Text;
 use std::alloc::Global;
 
-// How many constructs may be open at once: parentheses, those of calls included, brackets, braces and `not`.
+// How many constructs may be open at once: parentheses, those of calls included, brackets, braces
+// and `not`.
 const MAX_OPEN: u32 = 64;
 
 /// The statement that the text spells.
@@ -49,7 +50,8 @@ pub fn parse_condition(alloc: Global, text: &str) -> Result<Condition, SyntaxSto
 // A call, and a condition behind `where`.
 #[tactic(auto, unfolding(crate::specs::Parsing::statement))]
 fn statement(alloc: Global, cursor: &mut Cursor<'_>) -> Result<Statement, SyntaxStop>
-    ensures gives { Gives (λ statement. (statement, cursor.new)) fault_of result (spec.statement cursor.old) }
+    ensures gives { Gives (λ statement. (statement, cursor.new)) fault_of result
+        (spec.statement cursor.old) }
 {
     let call = call(alloc, cursor)?;
     if cursor.peek() != codes::WHERE {
@@ -84,7 +86,8 @@ fn call(alloc: Global, cursor: &mut Cursor<'_>) -> Result<Call, SyntaxStop>
 }
 
 fn condition(alloc: Global, cursor: &mut Cursor<'_>) -> Result<Condition, SyntaxStop>
-    ensures gives { Gives (λ condition. (condition, cursor.new)) fault_of result (spec.condition cursor.old) }
+    ensures gives { Gives (λ condition. (condition, cursor.new)) fault_of result
+        (spec.condition cursor.old) }
 {
     let expr = or_of(alloc, cursor, MAX_OPEN)?;
     Ok(Condition { expr })

@@ -23,7 +23,8 @@ pub fn print_statement(alloc: Global, statement: &Statement) -> Result<Text, All
 }
 
 fn push_where(out: &mut String, condition: &Option<Condition>) -> Result<(), AllocError>
-    ensures { OnOk result (string_bytes out.new ≡ string_bytes out.old ++ where_text condition.now) }
+    ensures { OnOk result (string_bytes out.new ≡ string_bytes out.old
+        ++ where_text condition.now) }
 {
     match condition {
         None => Ok(()),
@@ -38,7 +39,8 @@ fn push_where(out: &mut String, condition: &Option<Condition>) -> Result<(), All
 #[cycle(print)]
 #[tactic(auto, using(crate::proofs::Printed::wholes))]
 fn push_expr(out: &mut String, expr: &Expr, level: u32) -> Result<(), AllocError>
-    ensures { OnOk result (string_bytes out.new ≡ string_bytes out.old ++ expr_text level expr.now) }
+    ensures { OnOk result (string_bytes out.new ≡ string_bytes out.old
+        ++ expr_text level expr.now) }
 {
     if level <= strength_of(&expr.kind) {
         return push_kind(out, &expr.kind);
@@ -72,7 +74,8 @@ fn strength_of(kind: &ExprKind) -> u32
 #[cycle(print)]
 #[tactic(auto, using(crate::proofs::Printed::kinds_printed))]
 fn push_kind(out: &mut String, kind: &ExprKind) -> Result<(), AllocError>
-    ensures { OnOk result (string_bytes out.new ≡ string_bytes out.old ++ (kind_printed kind.now).1) }
+    ensures { OnOk result (string_bytes out.new ≡ string_bytes out.old
+        ++ (kind_printed kind.now).1) }
 {
     match kind {
         ExprKind::Literal(value) => push_literal(out, value),
@@ -114,7 +117,8 @@ fn push_call(out: &mut String, call: &Call) -> Result<(), AllocError>
 
 #[cycle(print)]
 fn push_compare(out: &mut String, compare: &Compare) -> Result<(), AllocError>
-    ensures { OnOk result (string_bytes out.new ≡ string_bytes out.old ++ spec.compare_text compare.now) }
+    ensures { OnOk result (string_bytes out.new ≡ string_bytes out.old
+        ++ spec.compare_text compare.now) }
 {
     push_expr(out, compare.left.get(), 4)?;
     push(out, sign_text(compare.sign))?;
@@ -211,7 +215,8 @@ fn push_path(out: &mut String, path: &Path) -> Result<(), AllocError>
 }
 
 fn push_names(out: &mut String, names: &[Text]) -> Result<(), AllocError>
-    ensures { OnOk result (string_bytes out.new ≡ string_bytes out.old ++ separated (codes ".") names.now) }
+    ensures { OnOk result (string_bytes out.new ≡ string_bytes out.old
+        ++ separated (codes ".") names.now) }
 {
     let Some((first, rest)) = names.split_first() else {
         return Ok(());

@@ -22,7 +22,8 @@ use std::alloc::Global;
 #[cycle(read)]
 #[tactic(auto, unfolding(crate::specs::Reading::disjunction))]
 pub(crate) fn or_of(alloc: Global, cursor: &mut Cursor<'_>, room: u32) -> Result<Expr, SyntaxStop>
-    ensures gives { Gives (λ expr. (expr, cursor.new)) fault_of result (disjunction (inside_of room) cursor.old) }
+    ensures gives { Gives (λ expr. (expr, cursor.new)) fault_of result
+        (disjunction (inside_of room) cursor.old) }
     ensures shorter { OnOk result (length cursor.new.left < length cursor.old.left) }
 {
     let at = cursor.at();
@@ -45,7 +46,8 @@ pub(crate) fn or_of(alloc: Global, cursor: &mut Cursor<'_>, room: u32) -> Result
 #[cycle(read)]
 #[tactic(auto, unfolding(crate::specs::Reading::conjunction))]
 fn and_of(alloc: Global, cursor: &mut Cursor<'_>, room: u32) -> Result<Expr, SyntaxStop>
-    ensures gives { Gives (λ expr. (expr, cursor.new)) fault_of result (conjunction (inside_of room) cursor.old) }
+    ensures gives { Gives (λ expr. (expr, cursor.new)) fault_of result
+        (conjunction (inside_of room) cursor.old) }
     ensures shorter { OnOk result (length cursor.new.left < length cursor.old.left) }
 {
     let at = cursor.at();
@@ -68,7 +70,8 @@ fn and_of(alloc: Global, cursor: &mut Cursor<'_>, room: u32) -> Result<Expr, Syn
 #[cycle(read)]
 #[tactic(auto, unfolding(crate::specs::Reading::negation))]
 fn not_of(alloc: Global, cursor: &mut Cursor<'_>, room: u32) -> Result<Expr, SyntaxStop>
-    ensures gives { Gives (λ expr. (expr, cursor.new)) fault_of result (negation (inside_of room) cursor.old) }
+    ensures gives { Gives (λ expr. (expr, cursor.new)) fault_of result
+        (negation (inside_of room) cursor.old) }
     ensures shorter { OnOk result (length cursor.new.left < length cursor.old.left) }
 {
     if cursor.peek() != codes::NOT {
@@ -106,7 +109,8 @@ fn comparison_sign(code: u8) -> Option<Sign>
 #[cycle(read)]
 #[tactic(auto, unfolding(crate::specs::Reading::comparison))]
 fn comparison_of(alloc: Global, cursor: &mut Cursor<'_>, room: u32) -> Result<Expr, SyntaxStop>
-    ensures gives { Gives (λ expr. (expr, cursor.new)) fault_of result (comparison (inside_of room) cursor.old) }
+    ensures gives { Gives (λ expr. (expr, cursor.new)) fault_of result
+        (comparison (inside_of room) cursor.old) }
     ensures shorter { OnOk result (length cursor.new.left < length cursor.old.left) }
 {
     let at = cursor.at();
@@ -146,7 +150,8 @@ fn sum_sign(code: u8) -> Sign
 #[cycle(read)]
 #[tactic(auto, unfolding(crate::specs::Reading::sum))]
 fn sum_of(alloc: Global, cursor: &mut Cursor<'_>, room: u32) -> Result<Expr, SyntaxStop>
-    ensures gives { Gives (λ expr. (expr, cursor.new)) fault_of result (sum (inside_of room) cursor.old) }
+    ensures gives { Gives (λ expr. (expr, cursor.new)) fault_of result
+        (sum (inside_of room) cursor.old) }
     ensures shorter { OnOk result (length cursor.new.left < length cursor.old.left) }
 {
     let at = cursor.at();
@@ -190,7 +195,8 @@ fn product_sign(code: u8) -> Sign
 #[cycle(read)]
 #[tactic(auto, unfolding(crate::specs::Reading::product))]
 fn product_of(alloc: Global, cursor: &mut Cursor<'_>, room: u32) -> Result<Expr, SyntaxStop>
-    ensures gives { Gives (λ expr. (expr, cursor.new)) fault_of result (product (inside_of room) cursor.old) }
+    ensures gives { Gives (λ expr. (expr, cursor.new)) fault_of result
+        (product (inside_of room) cursor.old) }
     ensures shorter { OnOk result (length cursor.new.left < length cursor.old.left) }
 {
     let at = cursor.at();
@@ -218,7 +224,8 @@ fn product_of(alloc: Global, cursor: &mut Cursor<'_>, room: u32) -> Result<Expr,
 #[cycle(read)]
 #[tactic(auto, unfolding(crate::specs::Reading::primary))]
 fn primary_of(alloc: Global, cursor: &mut Cursor<'_>, room: u32) -> Result<Expr, SyntaxStop>
-    ensures gives { Gives (λ expr. (expr, cursor.new)) fault_of result (primary (inside_of room) cursor.old) }
+    ensures gives { Gives (λ expr. (expr, cursor.new)) fault_of result
+        (primary (inside_of room) cursor.old) }
     ensures shorter { OnOk result (length cursor.new.left < length cursor.old.left) }
 {
     let at = cursor.at();
@@ -246,7 +253,8 @@ fn primary_of(alloc: Global, cursor: &mut Cursor<'_>, room: u32) -> Result<Expr,
 #[tactic(auto, unfolding(crate::specs::Reading::named))]
 fn named_of(alloc: Global, cursor: &mut Cursor<'_>, room: u32) -> Result<ExprKind, SyntaxStop>
     requires { 0 < head cursor.old }
-    ensures gives { Gives (λ kind. (kind, cursor.new)) fault_of result (spec.named (inside_of room) cursor.old) }
+    ensures gives { Gives (λ kind. (kind, cursor.new)) fault_of result
+        (spec.named (inside_of room) cursor.old) }
     ensures shorter { OnOk result (length cursor.new.left < length cursor.old.left) }
 {
     let at = cursor.at();
@@ -272,7 +280,8 @@ pub(crate) fn call_of(
     name: Text,
 ) -> Result<Call, SyntaxStop>
     requires { 0 < head cursor.old }
-    ensures gives { Gives (λ call. (call, cursor.new)) fault_of result (call_behind (inside_of room) at name cursor.old) }
+    ensures gives { Gives (λ call. (call, cursor.new)) fault_of result
+        (call_behind (inside_of room) at name cursor.old) }
     ensures shorter { OnOk result (length cursor.new.left < length cursor.old.left) }
 {
     let arguments = exprs_of(alloc, cursor, room, b')')?;
@@ -340,7 +349,8 @@ fn parts_of(alloc: Global, cursor: &mut Cursor<'_>, room: u32) -> Result<MapPart
 #[cycle(read)]
 #[tactic(auto, unfolding(crate::specs::Reading::part))]
 fn part_of(alloc: Global, cursor: &mut Cursor<'_>, room: u32) -> Result<MapPart, SyntaxStop>
-    ensures gives { Gives (λ part. (part, cursor.new)) fault_of result (part (disjunction (inside_of room)) cursor.old) }
+    ensures gives { Gives (λ part. (part, cursor.new)) fault_of result
+        (part (disjunction (inside_of room)) cursor.old) }
     ensures shorter { OnOk result (length cursor.new.left < length cursor.old.left) }
 {
     let key = text(alloc, cursor)?;
@@ -357,7 +367,8 @@ fn path_of(
     room: u32,
     first: Text,
 ) -> Result<Path, SyntaxStop>
-    ensures gives { Gives (λ path. (path, cursor.new)) fault_of result (path_behind (inside_of room) first cursor.old) }
+    ensures gives { Gives (λ path. (path, cursor.new)) fault_of result
+        (path_behind (inside_of room) first cursor.old) }
     ensures no_longer { OnOk result (length cursor.new.left ≤ length cursor.old.left) }
 {
     let names = names_of(alloc, cursor, first)?;
@@ -367,7 +378,8 @@ fn path_of(
 
 fn names_of(alloc: Global, cursor: &mut Cursor<'_>, first: Text) -> Result<Names, SyntaxStop>
     ensures gives { Gives (λ names. (names, cursor.new)) fault_of result
-        (with_front (first ∷ []) (pieces (λ c. c == 46) further_name (length cursor.old.left) cursor.old)) }
+        (with_front (first ∷ [])
+        (pieces (λ c. c == 46) further_name (length cursor.old.left) cursor.old)) }
     ensures no_longer { OnOk result (length cursor.new.left ≤ length cursor.old.left) }
 {
     let mut names = ItemList::new(alloc);
@@ -395,7 +407,8 @@ fn keys_of(alloc: Global, cursor: &mut Cursor<'_>, room: u32) -> Result<PathKeys
 #[tactic(auto, unfolding(crate::specs::Reading::key))]
 fn key_of(alloc: Global, cursor: &mut Cursor<'_>, room: u32) -> Result<PathKey, SyntaxStop>
     requires { 0 < head cursor.old }
-    ensures gives { Gives (λ key. (key, cursor.new)) fault_of result (spec.key (inside_of room) cursor.old) }
+    ensures gives { Gives (λ key. (key, cursor.new)) fault_of result
+        (spec.key (inside_of room) cursor.old) }
     ensures shorter { OnOk result (length cursor.new.left < length cursor.old.left) }
 {
     cursor.open_one(room)?;
