@@ -15,7 +15,10 @@ fn statement_of(alloc: Global, text: &str) -> Result<String, Fail> {
         return Err(AllocError.into());
     }
     match parse_statement(alloc, text) {
-        Ok(statement) => Ok(print_statement(alloc, &statement)?.into_string()),
+        Ok(statement) => {
+            let text = print_statement(alloc, &statement)?;
+            Ok(String::from_str(alloc, text.as_str())?)
+        }
         Err(SyntaxStop::Fault(fault)) => Ok(format!(in alloc; "{fault}")?),
         Err(SyntaxStop::NoMemory) => Err(AllocError.into()),
     }

@@ -2,10 +2,10 @@
 
 use super::{answer, value};
 use crate::{
-    concat, int, is_bool, is_double, is_int, is_list, is_map, is_string, len, made, split, string,
+    concat, int, is_bool, is_double, is_int, is_list, is_map, is_string, len, split, string,
     substring,
 };
-use pdata_value::{Bytes, Text, Value};
+use pdata_value::{Bytes, Text, Value, made};
 use std::test::Fail;
 
 #[test]
