@@ -8,7 +8,7 @@ use Rattle.std.specs.Ordering.{nat_cmp}
 use Rattle.std.specs.Str.{bytes_eq}
 use denote.Bor.{Bor}
 use Rattle.std.proofs.lemmas.Slice.Eq.{bytes_eq-Decides}
-use Rattle.pdata_value.specs.Pairs.{put}
+use Rattle.pdata_value.specs.Pairs.{get, put}
 use Rattle.pdata_value.specs.Places.{PutsAt}
 use Rattle.func_code.specs.Index.{position, Knows}
 
@@ -108,10 +108,39 @@ module _ {V : Type 0} where
   position-put (p ∷ ps) key v i at q =
       kept_on (bytes_eq p.0 key) p ps key v i q at (λ j at_j. position-put ps key v j at_j q)
 
-  -- what a place says of putting
+  get_none_on : (t : Bool) (v : V) (o : Option ℕ) (found : Option V) → cond t (Some 0) (option_map (λ k. suc k) o) ≡ None
+      → (o ≡ None → found ≡ None) → cond t (Some v) found ≡ None
+  get_none_on true v o found at rest = absurd cc
+  get_none_on false v o found at rest = rest (no_place o at)
+
+  -- a key without a place has no value
+  get-absent : (ps : List (List ℕ × V)) (key : List ℕ) → position ps key ≡ None → get ps key ≡ None
+  get-absent [] key at = refl
+  get-absent (q ∷ ps) key at = get_none_on (bytes_eq q.0 key) q.1 (position ps key) (get ps key) at (get-absent ps key)
+
+  get_some_on : (t : Bool) (q p : List ℕ × V) (ps : List (List ℕ × V)) (o : Option ℕ) (found : Option V) (i : ℕ)
+      → cond t (Some 0) (option_map (λ k. suc k) o) ≡ Some i → slice_get (q ∷ ps) i ≡ Some p
+      → ((j : ℕ) → o ≡ Some j → slice_get ps j ≡ Some p → found ≡ Some p.1) → cond t (Some q.1) found ≡ Some p.1
+  get_some_on true q p ps o found zero at got rest = let same : q ≡ p = cc in ap (λ (r : List ℕ × V). Some r.1) same
+  get_some_on true q p ps o found (suc i) at got rest = absurd cc
+  get_some_on false q p ps o found zero at got rest = let place = a_place o zero at in absurd (omega (arith, place.2))
+  get_some_on false q p ps o found (suc i) at got rest =
+      let place = a_place o (suc i) at in
+      let is : place.0 ≡ i = omega (arith, place.2) in
+      rest i (place.1 ∙ ap (λ (k : ℕ). Some k) is) got
+
+  -- a key that has a place has the value there
+  get-present : (ps : List (List ℕ × V)) (key : List ℕ) (i : ℕ) (p : List ℕ × V) → position ps key ≡ Some i
+      → slice_get ps i ≡ Some p → get ps key ≡ Some p.1
+  get-present [] key i p at got = absurd cc
+  get-present (q ∷ ps) key i p at got =
+      get_some_on (bytes_eq q.0 key) q p ps (position ps key) (get ps key) i at got (λ j at_j got_j. get-present ps key j p at_j got_j)
+
+  -- what a place says of finding and putting
   pub puts_at : (ps : List (List ℕ × V)) (key : List ℕ) (o : Option ℕ) → position ps key ≡ o → PutsAt ps key o
-  puts_at ps key None at = λ v. put-absent ps key v at
-  puts_at ps key (Some i) at = (position-within ps key i at, λ v p got. put-present ps key v i p at got)
+  puts_at ps key None at = (get-absent ps key at, λ v. put-absent ps key v at)
+  puts_at ps key (Some i) at =
+      (position-within ps key i at, λ p got. (get-present ps key i p at got, λ v. put-present ps key v i p at got))
 
   -- the index stays right where a key gets a new value, and where a key is added
   pub knows-put : (index : BTreeMap (Bor (List ℕ)) ℕ) (ps : List (List ℕ × V)) (key : List ℕ) (v : V) (i : ℕ) → Knows index ps
