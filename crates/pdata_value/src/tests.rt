@@ -1,8 +1,7 @@
 //! Each call on its happy path, and values at their limits.
 
 use crate::{
-    Bytes, EvalErr, EvalStop, Pairs, Spelling, SpellingStop, Strategy, Text, Value, Values, int_in,
-    list_in, made, shown, string, text_in,
+    Bytes, EvalErr, EvalStop, Pairs, Spelling, SpellingStop, Strategy, Text, Value, Values,
 };
 use std::alloc::{AllocError, Global};
 use std::test::Fail;
@@ -185,37 +184,5 @@ fn errors_have_names(rt: HostRuntime) -> Result<(), Fail> {
         EvalStop::Err(EvalErr::Large),
         EvalStop::Err(EvalErr::Range)
     );
-    Ok(())
-}
-
-// The text of a value, a word for none, or the name of an error.
-fn text_or_name(alloc: Global, value: &Value) -> Result<String, AllocError> {
-    match shown(alloc, value) {
-        Ok(Some(text)) => String::from_str(alloc, text.as_str()),
-        Ok(None) => String::from_str(alloc, "no text"),
-        Err(EvalStop::Err(error)) => Ok(format!(in alloc; "{error}")?),
-        Err(EvalStop::NoMemory) => Err(AllocError),
-    }
-}
-
-#[test]
-fn values_have_texts(rt: HostRuntime) -> Result<(), Fail> {
-    let alloc = rt.alloc();
-    let rows = [
-        (Value::Empty, "no text"),
-        (Value::Text(Text::from_str(alloc, "t")?), "t"),
-        (Value::Truth(false), "false"),
-        (Value::Int(-12), "-12"),
-        (Value::Bytes(Bytes::from_slice(alloc, &[10, 255])?), "0aff"),
-        (Value::Double(Spelling::read(alloc, "1.5")?), "Double"),
-        (Value::Map(Pairs::new(alloc)), "KindOf"),
-    ];
-    for (value, want) in rows {
-        assert_eq!(rt; text_or_name(alloc, &value)?.as_str(), want);
-    }
-    let text = string(alloc, &Value::Truth(true))?;
-    assert_eq!(rt; text_in(&made(text)?)?.as_str(), "true");
-    assert_eq!(rt; int_in(&Value::Int(3))?, 3);
-    assert_eq!(rt; list_in(&Value::List(Values::new(alloc)))?.len(), 0);
     Ok(())
 }
