@@ -8,6 +8,3 @@ mod parsing;
 
 pub use codes::{decode, hex_text, sha256};
 pub use parsing::parse_json;
-
-#[cfg(test)]
-mod tests;

@@ -1,4 +1,3 @@
-//! Trees are copied and counted, and read and written at paths.
+//! A payload is copied whole and counted.
 
 mod counts;
-mod paths;
