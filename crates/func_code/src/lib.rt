@@ -8,3 +8,6 @@ mod parsing;
 
 pub use codes::{decode, hex_text, sha256};
 pub use parsing::parse_json;
+
+#[cfg(test)]
+mod tests;

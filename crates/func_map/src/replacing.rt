@@ -5,15 +5,16 @@ ghost use Rattle.pdata_value.specs.Value.{pairs};
 ghost use Rattle.pdata_value.specs.Pairs.{put_all};
 ghost use Rattle.pdata_value.specs.declared.value.Value.{out-Value};
 ghost use Rattle.pdata_value.specs.Answers.{Answers};
-ghost use Rattle.func_map.specs.Edits.{IsMode, all_replaced, replace_all_patterns_of, replaced_in, replaced_key, replaced_value};
+ghost use Rattle.func_map.specs.Edits.{IsMode, all_replaced, replace_all_patterns_of};
+ghost use Rattle.func_map.specs.Edits.{replaced_in, replaced_key, replaced_value};
 
 use crate::target::{new_map, target_in};
 use func_text::{Pattern, PatternMatcher};
 use pdata_value::{EvalStop, Pairs, Text, Value};
 use std::alloc::{AllocError, Global};
 
-/// The map with all matches replaced by what the template writes there: in each text, in the mode `value`; in each key,
-/// in the mode `key`, where the pairs are put one after another.
+/// The map with all matches replaced by what the template writes there: in each text, in the mode
+/// `value`; in each key, in the mode `key`, where the pairs are put one after another.
 pub fn replace_all_patterns(
     alloc: Global,
     target: &Value,

@@ -1,4 +1,5 @@
--- IsString, IsInt, IsBool, IsDouble, IsMap and IsList: whether a value has a kind. Nil has none of them.
+-- IsString, IsInt, IsBool, IsDouble, IsMap and IsList: whether a value has a kind. Nil has none of
+-- them.
 use Rattle.std.specs.Prelude.{Bool, true, false, Result, Ok}
 use Rattle.pdata_value.specs.declared.error.EvalErr.{EvalErr}
 use Rattle.pdata_value.specs.declared.value.Value.{Value, out-Value}

@@ -1,5 +1,5 @@
 -- What jiff's printer shows of a format of the seven directives.
-use Rattle.std.proofs.Common.{◌≡◌, ◌≢◌, ◌⊎◌, inl, inr, ℕ, zero, suc, ◌+◌, ◌/◌, ◌<◌, ◌≤◌, ◌==◌, ◌&&◌, true, false, nat_le, nat_lt, List, [], ◌∷◌, ◌++◌, drop, take, length, get_or, refl, sym, ap, subst, ◌∙◌, arith, ℤ, pos, negsuc, unsigned_abs, replicate, min, ◌-◌, ◌^◌, Result, Some, Ok, Err, length-append, append_assoc, append-nil}
+use Rattle.std.proofs.Common.{if◌then◌else◌, ◌≡◌, ◌≢◌, ◌⊎◌, inl, inr, ℕ, zero, suc, ◌+◌, ◌/◌, ◌<◌, ◌≤◌, ◌==◌, ◌&&◌, true, false, nat_le, nat_lt, List, [], ◌∷◌, ◌++◌, drop, take, length, get_or, refl, sym, ap, subst, ◌∙◌, arith, ℤ, pos, negsuc, unsigned_abs, replicate, min, ◌-◌, ◌^◌, Result, Some, Ok, Err, length-append, append_assoc, append-nil}
 use Rattle.std.proofs.lemmas.Bool.Decides.{nat_tests}
 use Rattle.std.proofs.lemmas.Str.{IsUtf8-encode, IsUtf8-append, IsUtf8-nil, is_utf8-from_IsUtf8, length-encode, len_utf8_bounds}
 use Rattle.std.specs.Str.{IsUtf8, is_utf8}
@@ -23,7 +23,7 @@ use Rattle.jiff_strtime.specs.declared.tm.BrokenDownTime.{BrokenDownTime}
 use Rattle.jiff_strtime.specs.Show.{padded, int_text, IsShownAs}
 use Rattle.jiff_strtime.specs.Text.{Parts, parts_of, date_parts, time_parts}
 use Rattle.func_time.specs.Moments.{civil_year, civil_month, civil_day, clock_hour, clock_minute, clock_second}
-use Rattle.func_time.specs.Formats.{is_letter, is_format, is_format_from, letter_text, text_from, time_text}
+use Rattle.func_time.specs.Formats.{is_letter, is_format, is_format_from, text_from, time_text}
 
 -- the letters one by one
 abbrev pub IsLetter : ℕ → Type 0
@@ -41,10 +41,21 @@ pub record HasParts (cx : Context) (y : ℤ) (m d h mi s : ℕ) : Type 0 where
   pub minute : cx.parts.minute ≡ Some mi
   pub second : cx.parts.second ≡ Some s
 
+-- what a directive shows of these parts
+abbrev pub parts_text : ℤ → ℕ → ℕ → ℕ → ℕ → ℕ → ℕ → List ℕ
+parts_text y m d h mi s letter =
+    if letter == 89 then int_text plain 48 4 y
+    else (if letter == 109 then int_text plain 48 2 (pos m)
+    else (if letter == 100 then int_text plain 48 2 (pos d)
+    else (if letter == 72 then int_text plain 48 2 (pos h)
+    else (if letter == 77 then int_text plain 48 2 (pos mi)
+    else (if letter == 83 then int_text plain 48 2 (pos s)
+    else 37 ∷ [])))))
+
 abbrev pub Letters : Config → Context → (ℕ → List ℕ) → Type 0
 Letters config cx f = (b : ℕ) (rest : List ℕ) → is_letter b ≡ true → percent_text config (b ∷ rest) cx ≡ Ok (f b, rest)
 
-pub letters : (config : Config) (cx : Context) (y : ℤ) (m d h mi s : ℕ) → HasParts cx y m d h mi s → Letters config cx (letter_text y m d h mi s)
+pub letters : (config : Config) (cx : Context) (y : ℤ) (m d h mi s : ℕ) → HasParts cx y m d h mi s → Letters config cx (parts_text y m d h mi s)
 unfolding text_of directive_text read_flag colon_rest
 letters config cx y m d h mi s p b rest is =
     elim (which b is) [
@@ -309,7 +320,7 @@ year_fits : (y : ℤ) → IsYear y → unsigned_abs y < 2 ^ 64
 year_fits (pos n) h = omega (arith, signed_arith)
 year_fits (negsuc n) h = omega (arith, signed_arith)
 
-pub letter_utf8 : (y : ℤ) (m d h mi s : ℕ) → unsigned_abs y < 2 ^ 64 → m < 2 ^ 64 → d < 2 ^ 64 → h < 2 ^ 64 → mi < 2 ^ 64 → s < 2 ^ 64 → (b : ℕ) → is_letter b ≡ true → IsUtf8 (letter_text y m d h mi s b)
+pub letter_utf8 : (y : ℤ) (m d h mi s : ℕ) → unsigned_abs y < 2 ^ 64 → m < 2 ^ 64 → d < 2 ^ 64 → h < 2 ^ 64 → mi < 2 ^ 64 → s < 2 ^ 64 → (b : ℕ) → is_letter b ≡ true → IsUtf8 (parts_text y m d h mi s b)
 letter_utf8 y m d h mi s in_y in_m in_d in_h in_mi in_s b is =
     elim (which b is) [
       | inl e ↦ rw e (year_utf8 y in_y)
@@ -331,7 +342,7 @@ pub record IsCivil (dt : DateTime) (n : ℤ) : Type 0 where
   pub second : dt.time.second ≡ clock_second n
 
 abbrev dt_text : DateTime → ℕ → List ℕ
-dt_text dt = letter_text dt.date.year dt.date.month dt.date.day dt.time.hour dt.time.minute dt.time.second
+dt_text dt = parts_text dt.date.year dt.date.month dt.date.day dt.time.hour dt.time.minute dt.time.second
 
 time_text_is : (dt : DateTime) (n : ℤ) (fmt : List ℕ) → IsCivil dt n → text_from false (dt_text dt) fmt ≡ time_text n fmt
 unfolding time_text

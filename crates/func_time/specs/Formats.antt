@@ -86,15 +86,15 @@ moment_in text format =
     match_result (parse_text (full_format format) (full_text format text))
     moment_of (λ e. Err BadText)
 
--- what a directive shows of these parts, as jiff pads a number
-abbrev pub letter_text : ℤ → ℕ → ℕ → ℕ → ℕ → ℕ → ℕ → List ℕ
-letter_text y m d h mi s letter =
-    if letter == 89 then int_text plain 48 4 y
-    else (if letter == 109 then int_text plain 48 2 (pos m)
-    else (if letter == 100 then int_text plain 48 2 (pos d)
-    else (if letter == 72 then int_text plain 48 2 (pos h)
-    else (if letter == 77 then int_text plain 48 2 (pos mi)
-    else (if letter == 83 then int_text plain 48 2 (pos s)
+-- what a directive shows of a moment, as jiff pads a number
+abbrev pub letter_text : ℤ → ℕ → List ℕ
+letter_text n letter =
+    if letter == 89 then int_text plain 48 4 (civil_year n)
+    else (if letter == 109 then int_text plain 48 2 (pos (civil_month n))
+    else (if letter == 100 then int_text plain 48 2 (pos (civil_day n))
+    else (if letter == 72 then int_text plain 48 2 (pos (clock_hour n))
+    else (if letter == 77 then int_text plain 48 2 (pos (clock_minute n))
+    else (if letter == 83 then int_text plain 48 2 (pos (clock_second n))
     else 37 ∷ [])))))
 
 -- what the rest of a format shows, where each directive shows what `shows` says of its letter
@@ -106,8 +106,4 @@ text_from false shows (b ∷ rest) =
 
 -- what a format shows of a moment
 unfoldable pub time_text : ℤ → List ℕ → List ℕ
-time_text n format =
-    text_from false
-    (letter_text (civil_year n) (civil_month n) (civil_day n)
-    (clock_hour n) (clock_minute n) (clock_second n))
-    format
+time_text n format = text_from false (letter_text n) format

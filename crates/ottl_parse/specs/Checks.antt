@@ -20,6 +20,7 @@ use Rattle.ottl_parse.specs.declared.expr.ExprKind.TheFolds.{fold-Expr, fold-Exp
 abbrev pub Checked : Type 0
 Checked = Result (Unit {0}) SyntaxFault
 
+-- the first fault of these, if there is one
 abbrev pub all_well : List Checked → Checked
 all_well [] = Ok tt
 all_well (c ∷ cs) = c >>= λ _. all_well cs
@@ -39,6 +40,7 @@ abbrev pub is_upper : List ℕ → Bool
 is_upper [] = false
 is_upper (b ∷ bs) = is_ascii_uppercase b
 
+-- of a literal, by its kind
 abbrev pub is_truth_layer : {X Y Z : Type 0} → Value-F X Y Z → Bool
 is_truth_layer (Value-F.Truth truth) = true
 is_truth_layer _ = false
@@ -51,17 +53,19 @@ is_truth value = is_truth_layer (out-Value value)
 abbrev pub Checks : Type 0
 Checks = Wanted → Checked
 
--- the layers of an expression, by the checks of what they hold
-
+-- a layer whose parts are their checks: of a call whether its name is upper, and its arguments
 abbrev pub Kind : Type 0
 Kind = ExprKind-F (ℕ → Checks) (Bool × Checked) Checked Checks Checked Checked
 
+-- each where a value is wanted
 abbrev pub as_values : List Checks → Checked
 as_values checks = all_well (map (λ c. c wanted.Value) checks)
 
+-- each where a condition is wanted
 abbrev pub as_conditions : List Checks → Checked
 as_conditions checks = all_well (map (λ c. c wanted.Condition) checks)
 
+-- a kind of expression at its place: what it is itself, then its parts from the left
 abbrev pub kind_step : Kind → ℕ → Checks
 kind_step (ExprKind-F.Literal value) at w = cond (is_truth value) (Ok tt) (value_at at w)
 kind_step (ExprKind-F.List checks) at w = value_at at w >>= λ _. as_values checks
@@ -81,17 +85,21 @@ abbrev pub call_step : Call-F (ℕ → Checks) (Bool × Checked) Checked Checks 
     → Bool × Checked
 call_step call = (is_upper call.name, as_values call.arguments)
 
+-- both sides are values
 abbrev pub compare_step : Compare-F (ℕ → Checks) (Bool × Checked) Checked Checks Checked Checked
     → Checked
 compare_step compare = compare.left wanted.Value >>= λ _. compare.right wanted.Value
 
+-- an expression is judged at the place of its first token
 abbrev pub expr_step : Expr-F (ℕ → Checks) (Bool × Checked) Checked Checks Checked Checked → Checks
 expr_step expr = expr.kind expr.at
 
+-- what stands under a key is a value
 abbrev pub part_step : MapPart-F (ℕ → Checks) (Bool × Checked) Checked Checks Checked Checked
     → Checked
 part_step part = part.value wanted.Value
 
+-- a term is a value
 abbrev pub term_step : Term-F (ℕ → Checks) (Bool × Checked) Checked Checks Checked Checked → Checked
 term_step term = term.expr wanted.Value
 

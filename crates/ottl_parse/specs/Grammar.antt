@@ -42,6 +42,7 @@ Opens = ℕ → Rule
 abbrev pub enclosed : Rule → Rule → ℕ → Rule
 enclosed opening rule closes = seq opening (seq (comma_list rule) (one closes))
 
+-- the words that are literals
 abbrev pub is_literal_word : ℕ → Bool
 is_literal_word c = c == true_word || c == false_word || c == nil_word
 
@@ -84,6 +85,7 @@ product_rule primary = seq primary (many (seq (byte is_product_sign) primary))
 abbrev pub sum_rule : Rule → Rule
 sum_rule product = seq product (many (seq (byte is_sum_sign) product))
 
+-- the signs of comparisons
 abbrev pub is_comparison_sign : ℕ → Bool
 is_comparison_sign c =
     c == equal || c == unequal || c == 60 || c == at_most || c == 62 || c == at_least
@@ -112,6 +114,7 @@ abbrev pub negation_rule : ℕ → Rule
 negation_rule zero = not_rule (λ c. never) never never
 negation_rule (suc room) = not_rule one (negation_rule room) (expr_rule (negation_rule room))
 
+-- an expression alone, where so many constructs may be open
 abbrev pub condition_rule : ℕ → Rule
 condition_rule room = expr_rule (negation_rule room)
 

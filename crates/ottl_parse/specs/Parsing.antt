@@ -42,13 +42,16 @@ statement r =
 abbrev pub at_end : Rest → Checked
 at_end r = cond (length r.left == 0) (Ok tt) (stops Unexpected r)
 
+-- the expression of a condition is one
 abbrev pub check_condition : Condition → Checked
 check_condition condition = check condition.expr wanted.Condition
 
+-- so is that behind `where`, if there is one
 abbrev pub check_optional : Option Condition → Checked
 check_optional None = Ok tt
 check_optional (Some condition) = check_condition condition
 
+-- the arguments of a statement are values, then its condition is one
 abbrev pub check_statement : Statement → Checked
 check_statement statement =
     check_arguments statement.call >>= λ _. check_optional statement.condition
@@ -59,8 +62,10 @@ parsed read well text =
     tokens_of text >>= λ tokens. read (record { text = text; left = tokens })
     >>= λ p. at_end p.1 >>= λ _. well p.0 >>= λ _. Ok p.0
 
+-- the statement that a text spells, or its first fault
 unfoldable pub statement_of : List ℕ → Result Statement SyntaxFault
 statement_of text = parsed statement check_statement text
 
+-- the condition that a text spells, or its first fault
 unfoldable pub condition_of : List ℕ → Result Condition SyntaxFault
 condition_of text = parsed condition check_condition text

@@ -24,12 +24,15 @@ abbrev pub first_slice : List ℕ → List Token → List ℕ
 first_slice text [] = []
 first_slice text (t ∷ ts) = slice_of text t
 
+-- the code of the next token
 abbrev pub head : Rest → ℕ
 head r = head_of r.text r.left
 
+-- its place
 abbrev pub place : Rest → ℕ
 place r = place_of r.text r.left
 
+-- its bytes
 abbrev pub slice : Rest → List ℕ
 slice r = first_slice r.text r.left
 

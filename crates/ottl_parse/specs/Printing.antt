@@ -32,9 +32,11 @@ escape_of b =
     (cond (b == 13) (codes "\\r") (cond (b == 9) (codes "\\t")
     (codes "\\x" ++ digit_char (b / 16) ∷ digit_char (b % 16) ∷ [])))))
 
+-- a byte inside quotes
 abbrev pub byte_text : ℕ → List ℕ
 byte_text b = cond (is_plain b) (b ∷ []) (escape_of b)
 
+-- bytes inside quotes
 abbrev pub contents_text : List ℕ → List ℕ
 contents_text [] = []
 contents_text (b ∷ bs) = byte_text b ++ contents_text bs
@@ -48,6 +50,7 @@ abbrev pub hex_digits : List ℕ → List ℕ
 hex_digits [] = []
 hex_digits (b ∷ bs) = digit_char (b / 16) ∷ digit_char (b % 16) ∷ hex_digits bs
 
+-- a truth by its word
 abbrev pub truth_text : Bool → List ℕ
 truth_text true = codes "true"
 truth_text false = codes "false"
@@ -60,6 +63,7 @@ literal_layer (Value-F.Int int) = signed_decimal int
 literal_layer (Value-F.Bytes bytes) = codes "0x" ++ hex_digits bytes
 literal_layer _ = codes "nil"
 
+-- a literal by its kind
 abbrev pub literal_text : Value → List ℕ
 literal_text value = literal_layer (out-Value value)
 
@@ -69,6 +73,7 @@ literal_text value = literal_layer (out-Value value)
 abbrev pub Piece : Type 0
 Piece = List ℕ × List ℕ
 
+-- a text behind a separator
 abbrev pub piece : List ℕ → List ℕ → Piece
 piece separator text = (separator, text)
 
@@ -88,17 +93,21 @@ separated separator texts = listed (map (piece separator) texts)
 
 -- Paths.
 
+-- what stands between the brackets of a key
 abbrev pub key_inside : PathKey → List ℕ
 key_inside (keys.Name text) = quoted_text text
 key_inside (keys.Index index) = decimal index
 
+-- a key of a path
 abbrev pub key_text : PathKey → List ℕ
 key_text key = codes "[" ++ key_inside key ++ codes "]"
 
+-- the keys of a path, one after another
 abbrev pub keys_text : List PathKey → List ℕ
 keys_text [] = []
 keys_text (k ∷ ks) = key_text k ++ keys_text ks
 
+-- names with points between them, and the keys
 abbrev pub path_text : Path → List ℕ
 path_text path = separated (codes ".") path.names ++ keys_text path.keys
 
@@ -134,8 +143,7 @@ exprs_text separator level exprs = listed (map (λ e. piece separator (at_level 
 abbrev pub terms_text : ℕ → List (Sign × Printed) → List ℕ
 terms_text level terms = listed (map (λ t. piece (sign_text t.0) (at_level level t.1)) terms)
 
--- the layers of an expression, by what is printed of what they hold
-
+-- a kind of expression, by what is printed of its parts
 abbrev pub kind_step : ExprKind-F Printed (List ℕ) (List ℕ) Printed (List ℕ) (Sign × Printed)
     → Printed
 kind_step (ExprKind-F.Literal value) = (6, literal_text value)
@@ -151,29 +159,36 @@ kind_step (ExprKind-F.Not operand) = (2, codes "not " ++ at_level 2 operand)
 kind_step (ExprKind-F.And exprs) = (1, exprs_text (codes " and ") 2 exprs)
 kind_step (ExprKind-F.Or exprs) = (0, exprs_text (codes " or ") 1 exprs)
 
+-- a name and its arguments in parentheses
 abbrev pub call_step : Call-F Printed (List ℕ) (List ℕ) Printed (List ℕ) (Sign × Printed) → List ℕ
 call_step call = call.name ++ codes "(" ++ exprs_text (codes ", ") 0 call.arguments ++ codes ")"
 
+-- both sides, with the sign between them
 abbrev pub compare_step : Compare-F Printed (List ℕ) (List ℕ) Printed (List ℕ) (Sign × Printed)
     → List ℕ
 compare_step compare = at_level 4 compare.left ++ sign_text compare.sign ++ at_level 4 compare.right
 
+-- an expression is printed as its kind
 abbrev pub expr_step : Expr-F Printed (List ℕ) (List ℕ) Printed (List ℕ) (Sign × Printed) → Printed
 expr_step expr = expr.kind
 
+-- a key of a map and what stands under it
 abbrev pub part_step : MapPart-F Printed (List ℕ) (List ℕ) Printed (List ℕ) (Sign × Printed)
     → List ℕ
 part_step part = quoted_text part.key ++ codes ": " ++ at_level 0 part.value
 
+-- a term with its sign
 abbrev pub term_step : Term-F Printed (List ℕ) (List ℕ) Printed (List ℕ) (Sign × Printed)
     → Sign × Printed
 term_step term = (term.sign, term.expr)
 
+-- how tightly an expression binds, and its text
 unfoldable pub printed : Expr → Printed
 printed =
     fold-Expr Printed (List ℕ) (List ℕ) Printed (List ℕ) (Sign × Printed)
     kind_step call_step compare_step expr_step part_step term_step
 
+-- the same of a kind of expression
 unfoldable pub kind_printed : ExprKind → Printed
 kind_printed =
     fold-ExprKind Printed (List ℕ) (List ℕ) Printed (List ℕ) (Sign × Printed)
@@ -183,6 +198,7 @@ kind_printed =
 abbrev pub expr_text : ℕ → Expr → List ℕ
 expr_text level expr = at_level level (printed expr)
 
+-- a call
 unfoldable pub call_text : Call → List ℕ
 call_text =
     fold-Call Printed (List ℕ) (List ℕ) Printed (List ℕ) (Sign × Printed)
@@ -200,6 +216,7 @@ part_text part = quoted_text part.key ++ codes ": " ++ expr_text 0 part.value
 
 -- Statements.
 
+-- the condition of a statement behind its word
 abbrev pub where_text : Option Condition → List ℕ
 where_text None = []
 where_text (Some condition) = codes " where " ++ expr_text 0 condition.expr

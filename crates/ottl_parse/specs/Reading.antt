@@ -94,6 +94,7 @@ index r =
 abbrev pub taken : Value → Rest → Reads Value
 taken value r = Ok (value, past r)
 
+-- a whole number as a literal
 abbrev pub integer : Bool → Rest → Reads Value
 integer minus r = number minus r >>= λ n. Ok (values.Int n.0, n.1)
 
@@ -177,6 +178,7 @@ named inside r =
     (path_behind inside (slice r) (past r) >>= λ p. Ok (kinds.Path p.0, p.1))
     (Ok (kinds.Enum (slice r), past r)))
 
+-- what binds tightest: a group, a list, a map, what a name begins, or a literal
 unfoldable pub primary : Inside → Rest → Reads Expr
 primary inside r =
     cond (head r == 40) (group inside r)
@@ -196,23 +198,29 @@ level first kind begins one more r =
 abbrev pub signed_term : (ℕ → Sign) → (Rest → Reads Expr) → Rest → Reads Term
 signed_term sign one r = one (past r) >>= λ p. Ok (record { sign = sign (head r); expr = p.0 }, p.1)
 
+-- the sign of a product
 abbrev pub is_product_sign : ℕ → Bool
 is_product_sign c = c == 42 || c == 47
 
+-- which of the two it is
 abbrev pub product_sign : ℕ → Sign
 product_sign c = cond (c == 42) Times Over
 
+-- an operand, or a product of such
 unfoldable pub product : Inside → Rest → Reads Expr
 product inside r =
     level (λ e. record { sign = Times; expr = e }) kinds.Product is_product_sign (primary inside)
     (signed_term product_sign (primary inside)) r
 
+-- the sign of a sum
 abbrev pub is_sum_sign : ℕ → Bool
 is_sum_sign c = c == 43 || c == 45
 
+-- which of the two it is
 abbrev pub sum_sign : ℕ → Sign
 sum_sign c = cond (c == 43) Plus Minus
 
+-- a product, or a sum of such
 unfoldable pub sum : Inside → Rest → Reads Expr
 sum inside r =
     level (λ e. record { sign = Plus; expr = e }) kinds.Sum is_sum_sign (product inside)
@@ -233,20 +241,24 @@ compared r left one (Some sign) q =
     (λ right. kinds.Compare (roll-Compare (record { sign = sign; left = left; right = right })))
     (one (past q))
 
+-- a sum, or a comparison of two
 unfoldable pub comparison : Inside → Rest → Reads Expr
 comparison inside r =
     sum inside r >>= λ p. compared r p.0 (sum inside) (comparison_sign (head p.1)) p.1
 
+-- `not` and its operand, or a comparison
 unfoldable pub negation : Inside → Rest → Reads Expr
 negation inside r =
     cond (head r == not_word) (make r kinds.Not (inside.opening r >>= inside.operand))
     (comparison inside r)
 
+-- a negation, or several with `and` between them
 unfoldable pub conjunction : Inside → Rest → Reads Expr
 conjunction inside r =
     level (λ e. e) kinds.And (λ c. c == and_word) (negation inside)
     (λ q. negation inside (past q)) r
 
+-- a conjunction, or several with `or` between them
 unfoldable pub disjunction : Inside → Rest → Reads Expr
 disjunction inside r =
     level (λ e. e) kinds.Or (λ c. c == or_word) (conjunction inside)

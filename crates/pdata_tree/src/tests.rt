@@ -1,3 +1,4 @@
-//! A payload is copied whole and counted.
+//! A payload is copied whole and counted; paths are read and written.
 
 mod counts;
+mod paths;

@@ -1,7 +1,8 @@
 //! Each call on its happy path, and values at their limits.
 
 use crate::{
-    Bytes, EvalErr, EvalStop, Pairs, Spelling, SpellingStop, Strategy, Text, Value, Values,
+    Bytes, EvalErr, EvalStop, Pairs, Spelling, SpellingStop, Strategy, Text, Value, Values, int_in,
+    list_in, made, shown, string, text_in,
 };
 use std::alloc::{AllocError, Global};
 use std::test::Fail;
@@ -184,5 +185,43 @@ fn errors_have_names(rt: HostRuntime) -> Result<(), Fail> {
         EvalStop::Err(EvalErr::Large),
         EvalStop::Err(EvalErr::Range)
     );
+    Ok(())
+}
+
+// The text of a value, or why it has none.
+fn text_or_name(alloc: Global, value: &Value) -> Result<String, Fail> {
+    let text = match shown(alloc, value) {
+        Ok(Some(text)) => String::from_str(alloc, text.as_str())?,
+        Ok(None) => String::from_str(alloc, "no text")?,
+        Err(EvalStop::Err(error)) => format!(in alloc; "{}", error)?,
+        Err(EvalStop::NoMemory) => return Err(Fail::from("no memory")),
+    };
+    Ok(text)
+}
+
+#[test]
+fn values_have_texts(rt: HostRuntime) -> Result<(), Fail> {
+    let alloc = rt.alloc();
+    let nil = text_or_name(alloc, &Value::Empty)?;
+    assert_eq!(rt; nil.as_str(), "no text");
+    let int = text_or_name(alloc, &Value::Int(-12))?;
+    assert_eq!(rt; int.as_str(), "-12");
+    let bytes = Value::Bytes(Bytes::from_slice(alloc, &[10, 255])?);
+    let bytes = text_or_name(alloc, &bytes)?;
+    assert_eq!(rt; bytes.as_str(), "0aff");
+    let map = text_or_name(alloc, &Value::Map(Pairs::new(alloc)))?;
+    assert_eq!(rt; map.as_str(), "KindOf");
+    Ok(())
+}
+
+#[test]
+fn arguments_of_a_kind_are_taken(rt: HostRuntime) -> Result<(), Fail> {
+    let truth = string(rt.alloc(), &Value::Truth(true))?;
+    let truth = made(truth)?;
+    assert_eq!(rt; text_in(&truth)?.as_str(), "true");
+    assert_eq!(rt; int_in(&Value::Int(3))?, 3);
+    assert_eq!(rt; int_in(&truth), Err(EvalStop::Err(EvalErr::KindOf)));
+    let list = Value::List(Values::new(rt.alloc()));
+    assert_eq!(rt; list_in(&list)?.len(), 0);
     Ok(())
 }
