@@ -1,0 +1,12 @@
+pub mod Lists
+pub mod Slots
+pub mod Same
+pub mod Table
+pub mod Share
+pub mod Lowered
+pub mod Falling
+pub mod Release
+pub mod Added
+pub mod Growing
+pub mod Apart
+pub mod Plant

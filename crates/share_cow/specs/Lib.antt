@@ -1,0 +1,9 @@
+-- What a forest holds, the tree that a root stands for, and the nodes that trees share.
+pub mod Store
+pub mod Levels
+pub mod Kept
+-- Lists of roots.
+pub mod RootLists
+-- Inside the crate: how nodes go and come.
+pub mod Lowering
+pub mod Planting

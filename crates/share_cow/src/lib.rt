@@ -1,0 +1,14 @@
+//! Payload trees that share their nodes: each root stands for one plain tree.
+#![tactic(auto)]
+
+mod forest;
+mod lowering;
+mod node;
+mod planting;
+mod root;
+
+pub use forest::Forest;
+pub use root::{Root, Roots};
+
+#[cfg(test)]
+mod tests;

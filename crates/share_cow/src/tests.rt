@@ -1,0 +1,116 @@
+//! Roots come, share their trees, and go.
+
+use crate::{Forest, Root, Roots};
+use item_list::ItemList;
+use pdata_tree::{
+    Batch, LogRecord, Logs, ResourceNode, ResourceTree, Resources, ScopeNode, ScopeTree, Scopes,
+};
+use pdata_value::{Pairs, Text, Value};
+use std::alloc::{AllocError, Global};
+use std::test::Fail;
+
+fn record(alloc: Global) -> Result<LogRecord, AllocError> {
+    Ok(LogRecord {
+        time: 1,
+        observed: 2,
+        severity: 9,
+        severity_text: Text::from_str(alloc, "INFO")?,
+        body: Value::Int(3),
+        attributes: Pairs::new(alloc),
+        dropped: 0,
+        flags: 0,
+        trace_id: [6; 16],
+        span_id: [7; 8],
+    })
+}
+
+fn scopes(alloc: Global) -> Result<Scopes, AllocError> {
+    let mut logs: Logs = ItemList::new(alloc);
+    logs.push(record(alloc)?)?;
+    let node = ScopeNode {
+        name: Text::from_str(alloc, "name")?,
+        version: Text::new(alloc),
+        attributes: Pairs::new(alloc),
+        dropped: 0,
+        schema_url: Text::new(alloc),
+    };
+    let mut scopes = ItemList::new(alloc);
+    scopes.push(ScopeTree { node, logs })?;
+    Ok(scopes)
+}
+
+// A payload of one log record.
+fn one_record(alloc: Global) -> Result<Batch, AllocError> {
+    let node = ResourceNode {
+        attributes: Pairs::new(alloc),
+        dropped: 0,
+        schema_url: Text::new(alloc),
+    };
+    let scopes = scopes(alloc)?;
+    let mut resources: Resources = ItemList::new(alloc);
+    resources.push(ResourceTree { node, scopes })?;
+    Ok(Batch { resources })
+}
+
+fn after_planting(alloc: Global) -> Result<(u128, u32), AllocError> {
+    let mut forest = Forest::new(alloc, 2)?;
+    forest.plant(one_record(alloc)?)?;
+    Ok((forest.made(), forest.spare()))
+}
+
+#[test]
+fn planting_makes_each_node_once(rt: HostRuntime) -> Result<(), Fail> {
+    assert_eq!(rt; after_planting(rt.alloc())?, (4, 1));
+    Ok(())
+}
+
+fn share_often(forest: &mut Forest, root: &Root) {
+    for _ in 0..1000u32 {
+        if forest.spare() > 0 && forest.holds(root) {
+            forest.share(root);
+        }
+    }
+}
+
+fn after_sharing(alloc: Global) -> Result<(u128, u32), AllocError> {
+    let mut forest = Forest::new(alloc, 1001)?;
+    let root = forest.plant(one_record(alloc)?)?;
+    share_often(&mut forest, &root);
+    Ok((forest.made(), forest.spare()))
+}
+
+#[test]
+fn a_thousand_shares_make_no_node(rt: HostRuntime) -> Result<(), Fail> {
+    assert_eq!(rt; after_sharing(rt.alloc())?, (4, 0));
+    Ok(())
+}
+
+fn release(forest: &mut Forest, root: Root) {
+    if forest.holds(&root) {
+        forest.release(root);
+    }
+}
+
+fn after_release(alloc: Global) -> Result<(u128, u32), AllocError> {
+    let mut forest = Forest::new(alloc, 2)?;
+    let root = forest.plant(one_record(alloc)?)?;
+    release(&mut forest, root);
+    Ok((forest.made(), forest.spare()))
+}
+
+#[test]
+fn a_released_root_is_spare_again(rt: HostRuntime) -> Result<(), Fail> {
+    assert_eq!(rt; after_release(rt.alloc())?, (4, 2));
+    Ok(())
+}
+
+#[test]
+fn roots_are_listed(rt: HostRuntime) -> Result<(), Fail> {
+    let mut roots = Roots::with_room(rt.alloc(), 2)?;
+    roots.push(Root::new(5));
+    assert_eq!(rt; (roots.len(), roots.room()), (1, 1));
+    assert_eq!(rt; roots.at(0).map(|root| root.place()), Some(5));
+    assert!(rt; roots.take().is_some());
+    assert_eq!(rt; (roots.len(), roots.room()), (0, 2));
+    Ok(())
+}
