@@ -1,0 +1,4 @@
+//! The account of errors, and statements of configurations.
+
+mod account;
+mod statements;

@@ -1,0 +1,4 @@
+pub mod Reaching
+pub mod Growing
+pub mod Short
+pub mod Deeper

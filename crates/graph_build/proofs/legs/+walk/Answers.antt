@@ -1,0 +1,19 @@
+use Rattle.std.proofs.Common.{◌≡◌, ◌∙◌, length, Err, sym, ap, subst, arith, rules}
+use Rattle.graph_build.specs.Exits.{exits_of}
+use Rattle.graph_build.specs.Growing.{Grows}
+use Rattle.graph_build.specs.Legs.{children, legs_below}
+use Rattle.graph_build.proofs.Growing.{children-whole, legs_below-first}
+use Rattle.graph_build.proofs.legs.+walk.Goals as goal
+
+pub add_children-returns-in_err-add_leg : goal.add_children-returns-in_err-add_leg
+add_children-returns-in_err-add_leg t c =
+    let is : c.from_residual-in_err-add_leg.result ≡ Err c.in_err-add_leg.field-0.0 = search rules in
+    subst (λ r. Grows c.args.legs.now c.add_leg.new.legs r (children c.args.draft.now (legs_below c.args.draft.now c.args.levels) c.args.parent (length c.args.legs.now) c.args.exits.now)) (sym is)
+    (children-whole c.args.draft.now (legs_below c.args.draft.now c.args.levels) c.args.parent _ c.args.legs.now c.loop-exit.legs c.add_leg.new.legs c.add_leg.new.legs
+    c.args.exits.now c.loop-exit.exit-index c.exit-item.result c.in_ok-leg.leg c.loop-exit-test.true c.exit-item.is c.in_ok-leg.ensures c.loop-exit.invariant.0 c.in_err-add_leg.ensures)
+
+pub add_leg-returns : goal.add_leg-returns
+add_leg-returns t c =
+    legs_below-first c.args.draft.now c.args.levels c.len-number.result c.add_children.result c.args.legs.now c.push.new.self c.add_children.new.legs c.args.leg c.as_slice.result.now
+    (omega (arith, c.if-levels-eq0.false)) (omega (arith, c.if-len-ge-MAX_LEGS.false, c.len.ensures)) c.in_ok-push.ensures.ok c.len-number.ensures
+    (c.as_slice.ensures ∙ c.in_ok-exits.ensures ∙ ap (exits_of c.args.draft.now) c.as_str.ensures.value) c.add_children.ensures

@@ -1,0 +1,17 @@
+//! The legs of a configuration.
+#![tactic(auto)]
+
+mod cycle;
+mod exits;
+mod laws;
+mod leg;
+mod legs;
+mod top;
+
+pub use exits::Exit;
+pub use laws::{cycles_are_short, deeper_looks_find_the_same};
+pub use leg::Leg;
+pub use top::{MAX_LEGS, MAX_ROOTS, find_legs};
+
+#[cfg(test)]
+mod tests;
