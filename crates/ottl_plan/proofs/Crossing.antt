@@ -10,9 +10,9 @@ use Rattle.pdata_value.proofs.spelling.Spelling.TheSendSync as Spelling
 use Rattle.pdata_value.proofs.text.Text.TheSendSync as Text
 use Rattle.pdata_value.proofs.value.Value.TheLaws.TheKnot as Values
 use Rattle.pdata_value.specs.contracts.value.Value as Value
-use Rattle.ottl_plan.proofs.function.Editor.TheSendSync as Editor
 use Rattle.ottl_plan.proofs.planned.PlannedExpr.TheLaws.TheKnot as Tree
 use Rattle.ottl_plan.specs.contracts.argument.ArgumentLiteral as ArgumentLiteral
+use Rattle.ottl_plan.specs.contracts.function.Editor as Editor
 use Rattle.ottl_plan.specs.contracts.planned.Arguments as Arguments
 use Rattle.ottl_plan.specs.contracts.planned.Edit as Edit
 use Rattle.ottl_plan.specs.contracts.planned.PlannedCondition as PlannedCondition
@@ -20,6 +20,12 @@ use Rattle.ottl_plan.specs.contracts.planned.PlannedExpr as PlannedExpr
 use Rattle.ottl_plan.specs.contracts.planned.PlannedStatement as PlannedStatement
 
 ruleset plain = (std.crosses, sendable)
+
+editor_sync : IsSync Editor.the_row
+editor_sync = search plain depth 30
+
+editor_send : IsSend Editor.the_row
+editor_send = search plain depth 30
 
 literal_sync : IsSync ArgumentLiteral.the_row
 literal_sync = search (pattern_sync, plain) depth 30 fits 5000
@@ -43,7 +49,7 @@ arguments_sync =
 
 edit_sync : IsSync Edit.the_row
 edit_sync =
-    declared_sync Edit.the_type (search (Editor.the_sync, plain) depth 30, (search (PathTo.the_sync, plain) depth 30, (search (arguments_sync, plain) depth 30, tt)))
+    declared_sync Edit.the_type (search (editor_sync, plain) depth 30, (search (PathTo.the_sync, plain) depth 30, (search (arguments_sync, plain) depth 30, tt)))
 
 pub condition_sync : IsSync PlannedCondition.the_row
 condition_sync = declared_sync PlannedCondition.the_type (search (Context.the_sync, plain) depth 30, (search (expr_sync, plain) depth 30, tt))
@@ -62,7 +68,7 @@ arguments_send =
 
 edit_send : IsSend Edit.the_row
 edit_send =
-    declared_send Edit.the_type (search (Editor.the_send, plain) depth 30, (search (PathTo.the_send, plain) depth 30, (search (arguments_send, plain) depth 30, tt)))
+    declared_send Edit.the_type (search (editor_send, plain) depth 30, (search (PathTo.the_send, plain) depth 30, (search (arguments_send, plain) depth 30, tt)))
 
 pub condition_send : IsSend PlannedCondition.the_row
 condition_send = declared_send PlannedCondition.the_type (search (Context.the_send, plain) depth 30, (search (expr_send, plain) depth 30, tt))
