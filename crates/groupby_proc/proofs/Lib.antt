@@ -1,0 +1,5 @@
+mod Alike
+mod Codes
+mod Gathered
+mod Indexed
+mod Placed

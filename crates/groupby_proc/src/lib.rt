@@ -1,0 +1,14 @@
+//! Log records grouped by attributes.
+#![tactic(auto)]
+
+mod code;
+mod gathering;
+mod grouping;
+mod index;
+mod key;
+mod placing;
+
+pub use grouping::{apply_plain, regroup};
+
+#[cfg(test)]
+mod tests;

@@ -1,0 +1,5 @@
+-- What an error does to conditions in a list, and how calls end.
+pub mod Judging
+pub mod Ends
+-- Inside this crate: the targets in one resource.
+pub mod OneResource

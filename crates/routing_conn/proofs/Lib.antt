@@ -1,0 +1,4 @@
+mod Modes
+mod Places
+mod Seen
+mod Turns

@@ -1,0 +1,4 @@
+pub mod Turns
+mod Spots
+pub mod Steps
+pub mod Targets
