@@ -9,6 +9,7 @@ use Rattle.pdata_tree.specs.declared.path.PathTo.{PathTo}
 use Rattle.pdata_tree.specs.declared.place.Context.TheVariants.{Log}
 use Rattle.pdata_tree.specs.declared.place.Place.{Place}
 use Rattle.proc_targets.specs.Judging.{◌>>=◌}
+use Rattle.proc_targets.specs.Stepping.{Stepped, On, End, Fail}
 use Rattle.filter_proc.specs.Meaning.{dropped, filtered, flags_of}
 
 -- what is left to do: the log records that aren't judged; and whether each of the others stays
@@ -24,12 +25,6 @@ pub record State (T : Type 0) : Type 0 where
   pub tree : T
   pub cursor : Cursor
   pub account : Account
-
--- what a step comes to: the work goes on, or is at its end, or fails with a note
-pub data Stepped (T : Type 0) : Type 0 where
-  On : State T → Stepped T
-  End : State T → Stepped T
-  Fail : State T → Note → Stepped T
 
 -- the state with one step more that was done
 abbrev pub stepped_one : {T : Type 0} → State T → State T
@@ -48,17 +43,17 @@ record_ended s stays places account = record s {
 
 module _ {T : Type 0} (ops : TreeOps T PathTo) where
   -- a log record was judged, and these are left
-  abbrev pub judged : State T → List Place → Result (Bool × Account) Note → Stepped T
+  abbrev pub judged : State T → List Place → Result (Bool × Account) Note → Stepped (State T)
   judged s places (Ok t) = On (record_ended s (not t.0) places t.1)
   judged s places (Err note) = Fail s note
 
   -- a step on the log records that are left
-  abbrev pub targets_step : FilterSettings → State T → List Place → Stepped T
+  abbrev pub targets_step : FilterSettings → State T → List Place → Stepped (State T)
   targets_step settings s [] = End (record s { tree = ops.kept s.cursor.flags s.tree })
   targets_step settings s (p ∷ ps) = judged s ps (dropped ops settings s.tree p s.account)
 
   -- a step; the one that fails counts as done
-  abbrev pub filter_step : FilterSettings → State T → Stepped T
+  abbrev pub filter_step : FilterSettings → State T → Stepped (State T)
   filter_step settings s = targets_step settings (stepped_one s) s.cursor.targets
 
   -- a run at its beginning
@@ -82,7 +77,7 @@ module _ {T : Type 0} (ops : TreeOps T PathTo) where
   rest_of settings s = targets_left settings s s.cursor.targets
 
   -- what a step came to leaves what is meant: the rest, what stands at the end, or the note
-  abbrev pub Leaves : FilterSettings → Result (T × Account) Note → Stepped T → Type 0
+  abbrev pub Leaves : FilterSettings → Result (T × Account) Note → Stepped (State T) → Type 0
   Leaves settings meant (On t) = rest_of settings t ≡ meant
   Leaves settings meant (End t) = meant ≡ Ok (t.tree, t.account)
   Leaves settings meant (Fail t note) = meant ≡ Err note

@@ -16,6 +16,7 @@ use Rattle.pdata_tree.specs.declared.path.PathTo.{PathTo}
 use Rattle.pdata_tree.specs.declared.place.Place.{Place}
 use Rattle.pdata_value.specs.declared.pairs.Pairs.{Pairs}
 use Rattle.proc_targets.specs.Judging.{◌>>=◌, no_pairs}
+use Rattle.proc_targets.specs.Stepping.{Stepped, On, End, Fail}
 use Rattle.transform_proc.specs.Meaning.{GroupTurn, spot_of, statement_run, statements_run, taken}
 use Rattle.transform_proc.specs.Meaning.{target_run, targets_run, groups_run, transformed}
 
@@ -42,12 +43,6 @@ pub record State (T : Type 0) : Type 0 where
   pub tree : T
   pub cursor : Cursor
   pub account : Account
-
--- what a step comes to: the work goes on, or is at its end, or fails with a note
-pub data Stepped (T : Type 0) : Type 0 where
-  On : State T → Stepped T
-  End : State T → Stepped T
-  Fail : State T → Note → Stepped T
 
 -- the work on a target at its start: statements run at once where there are no conditions
 abbrev pub work_of : List PlannedCondition → List PlannedStatement → Work
@@ -105,25 +100,25 @@ begun groups places work = record {
 
 module _ {T : Type 0} (ops : TreeOps T PathTo) where
   -- the groups behind the first are left
-  abbrev pub next_group : State T → List Group → Stepped T
+  abbrev pub next_group : State T → List Group → Stepped (State T)
   next_group s [] = End (with_groups s (suc s.cursor.number) [] [] judging)
   next_group s (g ∷ gs) =
       On (with_groups s (suc s.cursor.number) (g ∷ gs) (ops.targets s.tree g.context) (first_work g))
 
   -- the targets behind the first are left of a group
-  abbrev pub next_target : State T → Group → List Group → List Place → Stepped T
+  abbrev pub next_target : State T → Group → List Group → List Place → Stepped (State T)
   next_target s g gs [] = next_group (ended_one s) gs
   next_target s g gs (p ∷ ps) =
       On (with_groups (ended_one s) s.cursor.number (g ∷ gs) (p ∷ ps) (first_work g))
 
   -- this is left to do on the target
-  abbrev pub left_on : State T → Here → Work → Stepped T
+  abbrev pub left_on : State T → Here → Work → Stepped (State T)
   left_on s h (running index [] cache) = next_target s h.group h.groups h.places
   left_on s h (running index (x ∷ xs) cache) = On (at_work s h (running index (x ∷ xs) cache))
   left_on s h judging = On (at_work s h judging)
 
   -- the conditions of the group were judged
-  abbrev pub judged : State T → Here → Result (Bool × Account) Note → Stepped T
+  abbrev pub judged : State T → Here → Result (Bool × Account) Note → Stepped (State T)
   judged s h (Ok (true, account)) =
       left_on (record s { account = account }) h (running 0 h.group.statements no_pairs)
   judged s h (Ok (false, account)) =
@@ -132,13 +127,13 @@ module _ {T : Type 0} (ops : TreeOps T PathTo) where
 
   -- a statement was run, and these from that number on stand behind it
   abbrev pub ran_one :
-      State T → Here → ℕ → List PlannedStatement → Result (Stage T × Account) Note → Stepped T
+      State T → Here → ℕ → List PlannedStatement → Result (Stage T × Account) Note → Stepped (State T)
   ran_one s h index xs (Ok t) =
       left_on (record s { tree = t.0.tree; account = t.1 }) h (running index xs t.0.cache)
   ran_one s h index xs (Err note) = Fail s note
 
   -- a step on a target
-  abbrev pub target_step : ErrorMode → State T → Here → Work → Stepped T
+  abbrev pub target_step : ErrorMode → State T → Here → Work → Stepped (State T)
   target_step mode s h judging =
       judged s h (taken ops (spot_of (turn mode s.cursor h.group) GroupCondition h.place)
       h.group.conditions (stage s.tree h.group.context h.place no_pairs) s.account)
@@ -149,18 +144,18 @@ module _ {T : Type 0} (ops : TreeOps T PathTo) where
       (stage s.tree h.group.context h.place cache) s.account)
 
   -- a step on the targets that are left of a group
-  abbrev pub targets_step : ErrorMode → State T → Group → List Group → List Place → Stepped T
+  abbrev pub targets_step : ErrorMode → State T → Group → List Group → List Place → Stepped (State T)
   targets_step mode s g gs [] = next_group s gs
   targets_step mode s g gs (p ∷ ps) =
       target_step mode s (record { group = g; groups = gs; place = p; places = ps }) s.cursor.work
 
   -- a step on the groups that are left
-  abbrev pub groups_step : ErrorMode → State T → List Group → Stepped T
+  abbrev pub groups_step : ErrorMode → State T → List Group → Stepped (State T)
   groups_step mode s [] = End s
   groups_step mode s (g ∷ gs) = targets_step mode s g gs s.cursor.targets
 
   -- a step; the one that fails counts as done
-  abbrev pub transform_step : ErrorMode → State T → Stepped T
+  abbrev pub transform_step : ErrorMode → State T → Stepped (State T)
   transform_step mode s = groups_step mode (stepped_one s) s.cursor.groups
 
   -- a run at its beginning; without groups it has no steps
@@ -204,7 +199,7 @@ module _ {T : Type 0} (ops : TreeOps T PathTo) where
   rest_of mode s = groups_left mode s.cursor s.cursor.groups s.tree s.account
 
   -- what a step came to leaves what is meant: the rest, what stands at the end, or the note
-  abbrev pub Leaves : ErrorMode → Result (T × Account) Note → Stepped T → Type 0
+  abbrev pub Leaves : ErrorMode → Result (T × Account) Note → Stepped (State T) → Type 0
   Leaves mode meant (On t) = rest_of mode t ≡ meant
   Leaves mode meant (End t) = meant ≡ Ok (t.tree, t.account)
   Leaves mode meant (Fail t note) = meant ≡ Err note

@@ -1,6 +1,6 @@
 //! Groups of statements, from their texts, on log records with the body `hi` and the attribute `d`,
 //! which is the double 2.50.
 
-mod ground;
 mod groups;
 mod modes;
+mod runs;

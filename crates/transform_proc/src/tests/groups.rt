@@ -1,6 +1,6 @@
 //! Groups, their targets and their caches.
 
-use super::ground::{group, run, run_group};
+use super::runs::{group, run, run_group};
 use conf_json::ErrorMode;
 use item_list::ItemList;
 use pdata_tree::Context;

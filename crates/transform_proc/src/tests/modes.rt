@@ -1,6 +1,6 @@
 //! Errors in each mode.
 
-use super::ground::run_group;
+use super::runs::run_group;
 use conf_json::ErrorMode;
 use std::alloc::Global;
 use std::test::Fail;
