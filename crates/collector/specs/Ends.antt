@@ -7,13 +7,14 @@ use Rattle.tele_io.specs.Views.{Told}
 use Rattle.collector.specs.Devices.{Devices}
 use Rattle.collector.specs.Meaning.{FileText, Texts, Meaning}
 use Rattle.collector.specs.declared.status.Status.{Status}
-use Rattle.collector.specs.declared.status.Status.TheVariants.{Done, SomeRefused, Usage, ReadFault, WriteFault, NoMemory, TooLong}
+use Rattle.collector.specs.declared.status.Status.TheVariants.{Done, SomeRefused, Usage, BadConf, ReadFault, WriteFault, NoMemory, TooLong}
 
 -- the number of each end
 abbrev pub number_of : Status → ℕ
 number_of Done = 0
 number_of SomeRefused = 1
 number_of Usage = 2
+number_of BadConf = 3
 number_of ReadFault = 4
 number_of WriteFault = 5
 number_of NoMemory = 6
@@ -125,6 +126,7 @@ Leaves ReadFault texts old new = (Untouched old new ⊎ Whole texts old new) × 
 Leaves NoMemory texts old new = (Untouched old new ⊎ Whole texts old new) × Silent old new
 Leaves WriteFault texts old new = Broken texts old new
 Leaves Usage texts old new = ⊥
+Leaves BadConf texts old new = ⊥
 
 -- A run of a command that means this took the devices from old to new, and ended so.
 pub record Runs (m : Meaning) (old new : Devices) (status : Status) : Type 0 where

@@ -6,7 +6,9 @@ pub mod Meaning
 pub mod Ends
 pub mod Payload
 pub mod Pass
+pub mod Check
 -- Inside a run, from line to line.
 pub mod Parsed
+pub mod Judged
 pub mod Between
 pub mod Lines

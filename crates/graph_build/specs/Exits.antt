@@ -1,6 +1,6 @@
 -- The ways out of a pipeline: through the connectors that it exports to, in their order, in each
 -- through the rows and then through the default.
-use Rattle.std.specs.Prelude.{ℕ, suc, Bool, List, [], ◌∷◌, ◌++◌, map, Option, Some, None, if◌then◌else◌}
+use Rattle.std.specs.Prelude.{ℕ, suc, Bool, List, [], ◌∷◌, ◌++◌, map, slice_get, Option, Some, None, if◌then◌else◌}
 use Rattle.std.specs.List.{list_any}
 use Rattle.std.specs.Str.{bytes_eq}
 use Rattle.conf_draft.specs.declared.draft.Connector.{Connector}
@@ -57,3 +57,24 @@ exits_of draft name = pipeline_exits draft (pipeline_named name draft.pipelines)
 -- one of the ways leads to that pipeline
 abbrev pub leads_to : List Exit → List ℕ → Bool
 leads_to exits name = list_any (λ e. bytes_eq name e.pipeline) exits
+
+-- the connector, if there is one, before others
+abbrev pub put_first : Option Connector → List Connector → List Connector
+put_first None others = others
+put_first (Some c) others = c ∷ others
+
+-- the connectors among these exporters, in their order
+abbrev pub connectors_among : List Connector → List (List ℕ) → List Connector
+connectors_among connectors [] = []
+connectors_among connectors (name ∷ names) =
+    put_first (connector_named name connectors) (connectors_among connectors names)
+
+-- the connectors of a pipeline
+abbrev pub connectors_of : Draft → Option Pipeline → List Connector
+connectors_of draft None = []
+connectors_of draft (Some p) = connectors_among draft.connectors p.exporters
+
+-- the connector with that number of the pipeline with that name
+abbrev pub connector_at : Draft → List ℕ → ℕ → Option Connector
+connector_at draft name number =
+    slice_get (connectors_of draft (pipeline_named name draft.pipelines)) number

@@ -1,9 +1,9 @@
 //! The ways out of a pipeline.
 
-ghost use Rattle.std.specs.Prelude.{◌≡◌, ◌++◌, ◌∷◌, [], List, ℕ, Option, Some, None, IfOk, OnOk, option_map};
+ghost use Rattle.std.specs.Prelude.{◌≡◌, ◌++◌, ◌∷◌, [], List, ℕ, Option, Some, None, IfOk, OnOk, option_map, slice_get};
 ghost use Rattle.std.specs.List.{list_any};
 ghost use Rattle.graph_build.specs.Exits as spec;
-ghost use Rattle.graph_build.specs.Exits.{exits_to, row_exits, connector_exits, exits_from};
+ghost use Rattle.graph_build.specs.Exits.{connectors_among, exits_to, row_exits, connector_exits, exits_from};
 
 use conf_draft::{Connector, Draft, Pipeline, RowDraft};
 use item_list::ItemList;
@@ -128,6 +128,39 @@ pub(crate) fn exits_of(
             list_exits(alloc, draft.connectors.as_slice(), exporters)
         }
         None => Ok(ItemList::new(alloc)),
+    }
+}
+
+fn nth_connector<'a>(
+    connectors: &'a [Connector],
+    exporters: &[Text],
+    number: u32,
+) -> Option<&'a Connector>
+    ensures { option_map (λ c. c.now) result
+        ≡ slice_get (connectors_among connectors.now exporters.now) number }
+{
+    let mut left = number;
+    for name in exporters {
+        if let Some(connector) = find_connector(connectors, name.as_str()) {
+            if left == 0 {
+                return Some(connector);
+            }
+            left -= 1;
+        }
+    }
+    None
+}
+
+/// The connector with that number of the pipeline with that name.
+pub fn connector_at<'a>(draft: &'a Draft, pipeline: &str, number: u32) -> Option<&'a Connector>
+    ensures { option_map (λ c. c.now) result ≡ spec.connector_at draft.now pipeline.now number }
+{
+    match find_pipeline(draft.pipelines.as_slice(), pipeline) {
+        Some(pipeline) => {
+            let exporters = pipeline.exporters.as_slice();
+            nth_connector(draft.connectors.as_slice(), exporters, number)
+        }
+        None => None,
     }
 }
 

@@ -1,11 +1,11 @@
 //! Finds the legs below a root.
 
-ghost use Rattle.std.specs.Prelude.{◌≡◌, ◌<◌, ℕ, length, IfOk};
+ghost use Rattle.std.specs.Prelude.{◌≡◌, ◌<◌, ℕ, length, nat_le, IfOk};
 ghost use Rattle.std.specs.List.{list_any};
 ghost use Rattle.conf_draft.specs.References as references;
 ghost use Rattle.graph_build.specs.Exits.{pipeline_named};
 ghost use Rattle.graph_build.specs.Legs as spec;
-ghost use Rattle.graph_build.specs.Legs.{child_leg, children, legs_below, legs_from, root_leg};
+ghost use Rattle.graph_build.specs.Legs.{child_leg, children, legs_below, legs_from, max_legs, root_leg};
 ghost use Rattle.graph_build.specs.Growing.{Grows};
 
 use crate::exits::{Exit, exits_of, find_pipeline};
@@ -91,6 +91,13 @@ fn child(alloc: Global, draft: &Draft, parent: u32, exit: &Exit) -> Result<Leg, 
     })
 }
 
+// Whether there are as many legs as there may be.
+fn is_full(legs: &ItemList<Leg>) -> bool
+    ensures { result ≡ nat_le max_legs (length legs.now) }
+{
+    MAX_LEGS <= legs.len()
+}
+
 // Adds a leg and all legs below it, so many levels deep.
 #[cycle(walk)]
 fn add_leg(
@@ -105,7 +112,7 @@ fn add_leg(
     if levels == 0 {
         return Ok(());
     }
-    if MAX_LEGS <= legs.len() {
+    if is_full(legs) {
         return Err(LegStop::TooMany);
     }
     let number = legs.len() as u32;

@@ -1,4 +1,4 @@
-//! The legs of a configuration.
+//! The legs of a configuration, and its plan.
 #![tactic(auto)]
 
 mod cycle;
@@ -6,11 +6,13 @@ mod exits;
 mod laws;
 mod leg;
 mod legs;
+mod plan;
 mod top;
 
-pub use exits::Exit;
+pub use exits::{Exit, connector_at};
 pub use laws::{cycles_are_short, deeper_looks_find_the_same};
 pub use leg::Leg;
+pub use plan::{Plan, build, check_conf};
 pub use top::{MAX_LEGS, MAX_ROOTS, find_legs};
 
 #[cfg(test)]

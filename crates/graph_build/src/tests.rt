@@ -1,5 +1,8 @@
 //! Legs and their faults.
 
+mod limits;
+mod plans;
+
 use crate::{Leg, find_legs};
 use conf_draft::{Draft, read_draft};
 use conf_shape::PointedStop;

@@ -1,0 +1,47 @@
+//! What a leg gets, leaves and counts, and what its exporters get.
+#![tactic(auto)]
+
+use conf_json::Note;
+use item_list::ItemList;
+
+/// An error on a leg.
+#[derive(Clone, Copy, Debug, PartialEq, Eq)]
+pub struct LegNote {
+    /// Which component erred: the pipeline's processors come first, then its connectors, from 0.
+    pub component: usize,
+    pub note: Note,
+}
+
+/// What is counted on a leg. The number taken is that of those out, filtered and failed together.
+#[derive(Clone, Copy, Debug, PartialEq, Eq)]
+pub struct LegCounts {
+    /// The log records of the tree that the leg got.
+    pub taken: u128,
+    /// Those of the tree that it left.
+    pub out: u128,
+    /// Those that its filters dropped.
+    pub filtered: u128,
+    /// Those that its connectors left without a pipeline.
+    pub unrouted: u128,
+    /// All that it got, where it failed.
+    pub failed: u128,
+    /// The errors that were counted.
+    pub errors: u128,
+}
+
+/// What an exporter got.
+#[derive(Clone, Copy, Debug, PartialEq, Eq)]
+pub struct FileTotal {
+    pub lines: u128,
+    /// With the newlines.
+    pub bytes: u128,
+}
+
+/// What is counted: the payloads, on each leg, and for each exporter in the byte order of names.
+#[derive(Drop)]
+pub struct Totals {
+    pub accepted: u128,
+    pub refused: u128,
+    pub legs: ItemList<LegCounts>,
+    pub files: ItemList<FileTotal>,
+}

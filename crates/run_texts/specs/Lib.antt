@@ -1,0 +1,4 @@
+-- What runs print.
+pub mod Check
+pub mod Fault
+pub mod Said
