@@ -22,12 +22,19 @@ use Rattle.pdata_tree.specs.declared.place.Context.TheVariants.{Resource, Scope,
 use Rattle.pdata_tree.specs.declared.place.Place.{Place}
 use Rattle.pdata_value.specs.Errors.{error_name}
 
+-- the number of a group
+unfoldable pub group_text : ℕ → List ℕ
+group_text group = codes "group " ++ decimal group
+
+-- a part of a group by its number
+abbrev pub numbered_part : ℕ → List ℕ → ℕ → List ℕ
+numbered_part group kind index =
+    group_text group ++ codes " " ++ kind ++ codes " " ++ decimal index
+
 -- what erred
 abbrev pub part_text : Part → ℕ → ℕ → List ℕ
-part_text Statement group index =
-    codes "group " ++ decimal group ++ codes " statement " ++ decimal index
-part_text GroupCondition group index =
-    codes "group " ++ decimal group ++ codes " condition " ++ decimal index
+part_text Statement group index = numbered_part group (codes "statement") index
+part_text GroupCondition group index = numbered_part group (codes "condition") index
 part_text FilterCondition group index = codes "condition " ++ decimal index
 part_text RouteRow group index = codes "row " ++ decimal index
 
@@ -52,11 +59,14 @@ payload_text number = codes "payload " ++ decimal number
 abbrev pub leg_text : ℕ → ℕ → List ℕ
 leg_text number leg = payload_text number ++ codes " leg " ++ decimal leg
 
+-- the line of an error that a leg counted
+abbrev pub counted_line : List ℕ → List (List ℕ) → LegNote → List ℕ
+counted_line head names e = head ++ codes " " ++ error_text names e ++ 10 ∷ []
+
 -- the errors that a leg counted
 abbrev pub counted_text : List ℕ → List (List ℕ) → List LegNote → List ℕ
 counted_text head names [] = []
-counted_text head names (e ∷ es) =
-    head ++ codes " " ++ error_text names e ++ 10 ∷ [] ++ counted_text head names es
+counted_text head names (e ∷ es) = counted_line head names e ++ counted_text head names es
 
 -- the error with which a leg failed, if it did
 abbrev pub failed_text : List ℕ → List (List ℕ) → Option LegNote → List ℕ

@@ -76,13 +76,29 @@ payloads_text accepted refused =
     codes "payloads " ++ decimal (accepted + refused) ++ codes " accepted " ++ decimal accepted
     ++ codes " refused " ++ decimal refused ++ 10 ∷ []
 
+-- the number of a leg
+unfoldable pub leg_number : ℕ → List ℕ
+leg_number index = codes "leg " ++ decimal index
+
+-- the log records that a leg got and left
+unfoldable pub flow_text : ℕ → Leg → LegCounts → List ℕ
+flow_text index leg c =
+    leg_number index ++ codes " " ++ leg.pipeline ++ codes " in " ++ decimal c.taken
+    ++ codes " out " ++ decimal c.out
+
+-- those that it dropped, and left without a pipeline
+unfoldable pub loss_text : LegCounts → List ℕ
+loss_text c =
+    codes " filtered " ++ decimal c.filtered ++ codes " unrouted " ++ decimal c.unrouted
+
+-- those that failed, and its errors
+unfoldable pub failure_text : LegCounts → List ℕ
+failure_text c =
+    codes " failed " ++ decimal c.failed ++ codes " errors " ++ decimal c.errors ++ 10 ∷ []
+
 -- the line of a leg with that number
 abbrev pub leg_line : ℕ → Leg → LegCounts → List ℕ
-leg_line index leg c =
-    codes "leg " ++ decimal index ++ codes " " ++ leg.pipeline
-    ++ codes " in " ++ decimal c.taken ++ codes " out " ++ decimal c.out
-    ++ codes " filtered " ++ decimal c.filtered ++ codes " unrouted " ++ decimal c.unrouted
-    ++ codes " failed " ++ decimal c.failed ++ codes " errors " ++ decimal c.errors ++ 10 ∷ []
+leg_line index leg c = flow_text index leg c ++ loss_text c ++ failure_text c
 
 -- the lines of legs, the first with that number
 abbrev pub leg_lines : ℕ → List Leg → List LegCounts → List ℕ

@@ -1,0 +1,16 @@
+//! Legs on one thread, each on a copy of its own.
+#![tactic(auto)]
+
+mod counting;
+mod course;
+mod legs;
+mod outcome;
+mod parts;
+mod plan;
+mod planning;
+
+pub use legs::run_legs;
+pub use outcome::{LegOutcome, NO_COUNTS, run_leg};
+pub use parts::{PipelineParts, find_parts, find_pipeline};
+pub use plan::LegPlan;
+pub use planning::plan_legs;
