@@ -1,6 +1,6 @@
 //! Reads the settings of a configuration.
 
-ghost use Rattle.std.specs.Prelude.{◌≡◌, ◌≤◌, length, IfOk};
+ghost use Rattle.std.specs.Prelude.{◌≡◌, ◌≤◌, length, IsOk, IfOk};
 ghost use Rattle.contract_words.specs.Gives.{Gives};
 ghost use Rattle.conf_draft.specs.Drafted.{drafted};
 ghost use Rattle.conf_json.specs.Fault.{fault_of, lifted};
@@ -48,7 +48,8 @@ impl Settings {
 
     /// What the bytes spell, with statements as texts.
     pub fn draft(&self) -> &Draft
-        ensures { IfOk (settings_of self.now) (λ meant. result.now ≡ meant.draft) }
+        ensures value { IfOk (settings_of self.now) (λ meant. result.now ≡ meant.draft) }
+        ensures spelled { IsOk (settings_of self.now) }
     {
         &self.meant.draft
     }

@@ -40,11 +40,13 @@ abbrev pub OnRule : Result Rule FaultKind → (Rule → Type 0) → Type 0
 OnRule (Ok rule) Holds = Holds rule
 OnRule (Err kind) Holds = ⊥
 
+-- only lists have a rule there, and it holds
 abbrev pub OnListRule : Option Rule → (Rule → Type 0) → Type 0
 OnListRule (Some rule) Holds = Holds rule
 OnListRule None Holds = ⊥
 
 abbrev mutual
+  -- what stands there has the shape
   pub HasShape : Rule → Data → Type 0
   HasShape rule null = ⊥
   HasShape rule (boolean b) = ⊥

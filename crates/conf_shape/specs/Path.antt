@@ -10,5 +10,6 @@ pointer_step Path-F.Top = []
 pointer_step (Path-F.Member above key) = member_of above.now key.now
 pointer_step (Path-F.Element above index) = element_of above.now index
 
+-- the JSON Pointer of a place
 abbrev pub pointer_of : Path → List ℕ
 pointer_of = fold-Path (List ℕ) pointer_step

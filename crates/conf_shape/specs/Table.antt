@@ -16,9 +16,11 @@ pub record Row : Type 0 where
   pub must : Bool
   pub rule : Rule
 
+-- a member that must stand
 abbrev pub must : String → Rule → Row
 must name rule = record { name = codes name; must = true; rule = rule }
 
+-- a member that may be absent
 abbrev pub may : String → Rule → Row
 may name rule = record { name = codes name; must = false; rule = rule }
 
@@ -57,6 +59,7 @@ pub record Kind : Type 0 where
   pub type_name : List ℕ
   pub part : Part
 
+-- a type by its name, and its object
 abbrev pub kind : String → Part → Kind
 kind name part = record { type_name = codes name; part = part }
 

@@ -69,15 +69,15 @@ impl Plan {
 
 // The legs of the draft, with faults of configurations.
 fn legs_of_draft(alloc: Global, settings: &Settings) -> Result<ItemList<Leg>, ConfStop>
-    ensures { IfOk (settings_of settings.now) (λ meant.
+    ensures legs { IfOk (settings_of settings.now) (λ meant.
         Gives (λ legs. legs) fault_of result (lifted (legs_of meant.draft))) }
+    ensures spelled { IsOk (settings_of settings.now) }
 {
     Ok(find_legs(alloc, settings.draft())?)
 }
 
 // The legs of settings that were read.
 fn legs_in(alloc: Global, settings: &Settings) -> Result<ItemList<Leg>, ConfStop>
-    requires { IsOk (settings_of settings.now) }
     ensures { FindsLegs result (conf_of settings.now) }
 {
     legs_of_draft(alloc, settings)
@@ -85,7 +85,6 @@ fn legs_in(alloc: Global, settings: &Settings) -> Result<ItemList<Leg>, ConfStop
 
 /// The plan of settings that were read, or the first fault of their legs.
 pub fn build(alloc: Global, settings: Settings) -> Result<Plan, ConfStop>
-    requires { IsOk (settings_of settings) }
     ensures { Builds result settings }
 {
     let legs = legs_in(alloc, &settings)?;

@@ -52,10 +52,11 @@ error_text names e =
     ++ part_text e.note.part e.note.group e.note.index ++ codes " at "
     ++ place_text e.note.context e.note.place ++ codes " " ++ error_name e.note.err
 
--- the number of a payload, and that of a leg on it
+-- the number of a payload
 abbrev pub payload_text : ℕ → List ℕ
 payload_text number = codes "payload " ++ decimal number
 
+-- the number of a leg on it
 abbrev pub leg_text : ℕ → ℕ → List ℕ
 leg_text number leg = payload_text number ++ codes " leg " ++ decimal leg
 

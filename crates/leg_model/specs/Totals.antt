@@ -24,11 +24,12 @@ abbrev pub refused_by : Read Batch → ℕ
 refused_by (Ok tree) = 0
 refused_by (Err fault) = 1
 
--- how many of these lines are accepted, and how many refused
+-- how many of these lines are accepted
 abbrev pub accepted : List (List ℕ) → ℕ
 accepted [] = 0
 accepted (l ∷ ls) = accepted_by (payload l) + accepted ls
 
+-- how many of them are refused
 abbrev pub refused : List (List ℕ) → ℕ
 refused [] = 0
 refused (l ∷ ls) = refused_by (payload l) + refused ls

@@ -13,8 +13,9 @@ use Rattle.ottl_plan.specs.declared.fault.PlanStop.TheVariants.{Fault, NoMemory}
 abbrev pub fault : PlanKind → ℕ → PlanFault
 fault kind at = record { kind = kind; at = at }
 
--- what a step gives goes on into the next; the first fault stays
 infixl 10 ◌>>=◌
+
+-- what a step gives goes on into the next; the first fault stays
 abbrev pub ◌>>=◌ : {A B : Type 0} → Result A PlanFault → (A → Result B PlanFault) → Result B PlanFault
 (Ok x) >>= f = f x
 (Err e) >>= f = Err e
