@@ -69,9 +69,13 @@ paths_fault at earlier (e ∷ es) =
     first_of (path_fault (member_of (member_of at e.name) (codes "path")) earlier e.path)
     (paths_fault at (earlier ++ e.path ∷ []) es)
 
+-- SamePath at the first exporter whose path is one of the names, or that of an exporter before it
+abbrev pub files_fault : List (List ℕ) → Draft → Option PointedFault
+files_fault taken draft = paths_fault (member_of [] (codes "exporters")) taken draft.exporters
+
 -- of the pipelines, then of the statements, then of the exporters' paths
 abbrev pub limits_fault : Draft → Option PointedFault
 limits_fault draft =
     first_of (pipelines_limit_fault draft)
     (first_of (statements_limit_fault draft)
-    (paths_fault (member_of [] (codes "exporters")) [] draft.exporters))
+    (files_fault [] draft))

@@ -13,7 +13,7 @@ pub use draft::{
     Action, Connector, Draft, ErrorMode, Exporter, FilterDraft, GroupDraft, Pipeline, Processor,
     ProcessorKind, RowDraft, TransformDraft,
 };
-pub use limits::{MAX_PIPELINES, MAX_STATEMENTS};
+pub use limits::{MAX_PIPELINES, MAX_STATEMENTS, check_paths};
 pub use top::read_draft;
 
 #[cfg(test)]

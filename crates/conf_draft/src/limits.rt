@@ -1,15 +1,15 @@
 //! The first fault in the numbers and the paths of a configuration.
 
-ghost use Rattle.std.specs.Prelude.{◌≡◌, ◌+◌, ◌-◌, ◌^◌, min, List, ℕ, [], length, codes};
+ghost use Rattle.std.specs.Prelude.{◌≡◌, ◌+◌, ◌-◌, ◌^◌, min, List, ℕ, length, map, codes};
 ghost use Rattle.conf_shape.specs.Fault.{Finds};
 ghost use Rattle.conf_shape.specs.Path.{pointer_of};
 ghost use Rattle.conf_shape.specs.Pointer.{member_of};
 ghost use Rattle.conf_draft.specs.References as names;
 ghost use Rattle.conf_draft.specs.Seen.{has};
 ghost use Rattle.conf_draft.specs.Limits as spec;
-ghost use Rattle.conf_draft.specs.Limits.{group_counts, kind_count, processor_counts, connector_counts, statement_count, pipelines_limit_fault, statements_limit_fault, path_fault, paths_fault, limits_fault};
+ghost use Rattle.conf_draft.specs.Limits.{group_counts, kind_count, processor_counts, connector_counts, statement_count, pipelines_limit_fault, statements_limit_fault, path_fault, files_fault, limits_fault};
 
-use crate::draft::{Connector, Draft, Exporter, GroupDraft, Processor, ProcessorKind};
+use crate::draft::{Connector, Draft, GroupDraft, Processor, ProcessorKind};
 use crate::names::{put, stands_in};
 use conf_shape::{FaultKind, Path, PointedStop, told};
 use std::alloc::Global;
@@ -97,15 +97,21 @@ fn check_count(alloc: Global, draft: &Draft) -> Result<(), PointedStop>
     Ok(())
 }
 
-fn check_paths<'a>(
+/// Looks for the first exporter whose path is one of these names, or that of an exporter before it.
+pub fn check_paths<'a>(
     alloc: Global,
-    path: &'a Path<'a>,
-    exporters: &'a [Exporter],
+    draft: &'a Draft,
+    taken: &'a [&'a str],
 ) -> Result<(), PointedStop>
-    ensures { Finds result (paths_fault (pointer_of path.now) [] exporters.now) }
+    ensures { Finds result (files_fault (map (λ name. name.now) taken.now) draft.now) }
 {
+    let top = Path::top();
+    let path = top.member("exporters");
     let mut seen: BTreeMap<&str, ()> = BTreeMap::new(alloc);
-    for exporter in exporters {
+    for name in taken {
+        put(&mut seen, name)?;
+    }
+    for exporter in draft.exporters.as_slice() {
         check_path(
             alloc,
             &path.member(exporter.name.as_str()),
@@ -140,6 +146,5 @@ pub(crate) fn check_limits(alloc: Global, draft: &Draft) -> Result<(), PointedSt
 {
     check_count(alloc, draft)?;
     check_statements(alloc, draft)?;
-    let top = Path::top();
-    check_paths(alloc, &top.member("exporters"), draft.exporters.as_slice())
+    check_paths(alloc, draft, &[])
 }

@@ -1,6 +1,6 @@
 //! First faults among names and numbers, and what is read.
 
-use crate::{Draft, read_draft};
+use crate::{Draft, check_paths, read_draft};
 use conf_shape::PointedStop;
 use std::alloc::{AllocError, Global};
 use std::fmt::Write;
@@ -204,5 +204,32 @@ fn exporters_have_paths_of_their_own(rt: HostRuntime) -> Result<(), Fail> {
         r#""exporters":{"file":{"path":"a"},"file/b":{"path":"b"},"file/c":{"path":"a"}},"#;
     let got = with_pipelines(rt.alloc(), ROOT, exporters)?;
     assert_eq!(rt; got.as_str(), "SamePath at $/exporters/file~1c/path");
+    Ok(())
+}
+
+// What is told of a configuration whose one exporter writes to `o`, where these names are taken.
+fn beside(alloc: Global, taken: &[&str]) -> Result<String, Fail> {
+    let text = format!(in alloc; r#"{TOP}"service":{{"pipelines":{{{ROOT}}}}}}}"#)?;
+    let draft = match read_draft(alloc, text.as_bytes()) {
+        Ok(draft) => draft,
+        Err(_) => return Err(Fail::from("no draft")),
+    };
+    match check_paths(alloc, &draft, taken) {
+        Ok(()) => Ok(String::from_str(alloc, "apart")?),
+        Err(PointedStop::Fault(fault)) => {
+            let kind = fault.kind;
+            let at = fault.at.as_str();
+            Ok(format!(in alloc; "{kind} at ${at}")?)
+        }
+        Err(PointedStop::NoMemory) => Err(AllocError.into()),
+    }
+}
+
+#[test]
+fn exporters_write_to_no_name_that_is_taken(rt: HostRuntime) -> Result<(), Fail> {
+    let got = beside(rt.alloc(), &["c", "o"])?;
+    assert_eq!(rt; got.as_str(), "SamePath at $/exporters/file/path");
+    let got = beside(rt.alloc(), &["c", "i"])?;
+    assert_eq!(rt; got.as_str(), "apart");
     Ok(())
 }
