@@ -7,9 +7,9 @@ ghost use Rattle.conf_shape.specs.Pointer.{member_of};
 ghost use Rattle.conf_draft.specs.References as names;
 ghost use Rattle.conf_draft.specs.Seen.{has};
 ghost use Rattle.conf_draft.specs.Limits as spec;
-ghost use Rattle.conf_draft.specs.Limits.{group_counts, kind_count, processor_counts, connector_counts, statement_count, pipelines_limit_fault, statements_limit_fault, path_fault, files_fault, limits_fault};
+ghost use Rattle.conf_draft.specs.Limits.{group_counts, kind_count, processor_counts, connector_counts, statement_count, pipelines_limit_fault, statements_limit_fault, path_fault, paths_fault, files_fault, limits_fault};
 
-use crate::draft::{Connector, Draft, GroupDraft, Processor, ProcessorKind};
+use crate::draft::{Connector, Draft, Exporter, GroupDraft, Processor, ProcessorKind};
 use crate::names::{put, stands_in};
 use conf_shape::{FaultKind, Path, PointedStop, told};
 use std::alloc::Global;
@@ -97,21 +97,20 @@ fn check_count(alloc: Global, draft: &Draft) -> Result<(), PointedStop>
     Ok(())
 }
 
-/// Looks for the first exporter whose path is one of these names, or that of an exporter before it.
-pub fn check_paths<'a>(
+fn check_files<'a>(
     alloc: Global,
-    draft: &'a Draft,
+    path: &'a Path<'a>,
     taken: &'a [&'a str],
+    exporters: &'a [Exporter],
 ) -> Result<(), PointedStop>
-    ensures { Finds result (files_fault (map (λ name. name.now) taken.now) draft.now) }
+    ensures { Finds result
+        (paths_fault (pointer_of path.now) (map (λ name. name.now) taken.now) exporters.now) }
 {
-    let top = Path::top();
-    let path = top.member("exporters");
     let mut seen: BTreeMap<&str, ()> = BTreeMap::new(alloc);
     for name in taken {
         put(&mut seen, name)?;
     }
-    for exporter in draft.exporters.as_slice() {
+    for exporter in exporters {
         check_path(
             alloc,
             &path.member(exporter.name.as_str()),
@@ -138,6 +137,19 @@ fn check_path<'a>(
         return Err(told(alloc, FaultKind::SamePath, &path.member("path")));
     }
     Ok(())
+}
+
+/// Looks for the first exporter whose path is one of these names, or that of an exporter before it.
+pub fn check_paths(alloc: Global, draft: &Draft, taken: &[&str]) -> Result<(), PointedStop>
+    ensures { Finds result (files_fault (map (λ name. name.now) taken.now) draft.now) }
+{
+    let top = Path::top();
+    check_files(
+        alloc,
+        &top.member("exporters"),
+        taken,
+        draft.exporters.as_slice(),
+    )
 }
 
 /// Looks for the first fault in the numbers and the paths.

@@ -14,7 +14,6 @@ abbrev pub fault : PlanKind → ℕ → PlanFault
 fault kind at = record { kind = kind; at = at }
 
 infixl 10 ◌>>=◌
-
 -- what a step gives goes on into the next; the first fault stays
 abbrev pub ◌>>=◌ : {A B : Type 0} → Result A PlanFault → (A → Result B PlanFault) → Result B PlanFault
 (Ok x) >>= f = f x
