@@ -10,7 +10,7 @@ use Rattle.collector.specs.declared.status.Status.{Status}
 use Rattle.collector.specs.declared.status.Status.TheVariants.{Done, BadConf, WriteFault}
 
 -- what a read tells of what was held
-found-told : (P : Held → Type 0) (a b : Option Held) → Told (λ was now. SameHeld was now × P was) a b → IfSome a P
+pub found-told : (P : Held → Type 0) (a b : Option Held) → Told (λ was now. SameHeld was now × P was) a b → IfSome a P
 found-told P None b r = tt
 found-told P (Some was) None r = absurd r
 found-told P (Some was) (Some now) r = r.1

@@ -1,11 +1,12 @@
 -- What stands at each end of a run, whatever its command means.
-use Rattle.std.specs.Prelude.{◌≡◌, ◌≢◌, ◌<◌, ◌++◌, ◌⊎◌, List, [], ◌∷◌, Option, Some, IfSome, IsSome, ℕ}
-use Rattle.contract_words.specs.Fronts.{IsFront, GrewByFront}
-use Rattle.contract_words.specs.Held.{Held, SameHeld, rest_from}
+use Rattle.std.specs.Prelude.{◌≡◌, ◌<◌, ◌++◌, ◌⊎◌, List, [], ◌∷◌, Option, IfSome, IsSome, ℕ}
+use Rattle.contract_words.specs.Fronts.{GrewByFront}
+use Rattle.contract_words.specs.Held.{SameHeld, rest_from}
 use Rattle.contract_words.specs.InputLines.{Taken, ended, too_long, taking, lines_of, taken_of}
 use Rattle.tele_io.specs.Views.{Told}
 use Rattle.collector.specs.Devices.{Devices}
-use Rattle.collector.specs.Meaning.{FileText, Texts, Meaning}
+use Rattle.export_sink.specs.Files.{HoldTexts, HoldFronts, OnlyThese}
+use Rattle.collector.specs.Meaning.{Texts, Meaning}
 use Rattle.collector.specs.declared.status.Status.{Status}
 use Rattle.collector.specs.declared.status.Status.TheVariants.{Done, SomeRefused, Usage, BadConf, ReadFault, WriteFault, NoMemory, TooLong}
 
@@ -49,39 +50,6 @@ abbrev pub Refuses : Status → ℕ → Type 0
 Refuses Done refused = refused ≡ 0
 Refuses SomeRefused refused = 0 < refused
 Refuses _ refused = Unit {0}
-
--- each file holds its text
-abbrev pub HoldTexts : List FileText → Held → Type 0
-HoldTexts [] now = Unit {0}
-HoldTexts (f ∷ fs) now = (now f.name ≡ Some f.text) × HoldTexts fs now
-
--- each file is as it was
-abbrev pub FilesStay : List FileText → Held → Held → Type 0
-FilesStay [] was now = Unit {0}
-FilesStay (f ∷ fs) was now = (now f.name ≡ was f.name) × FilesStay fs was now
-
--- the file holds a front of its text
-pub record HoldsFront (f : FileText) (now : Held) : Type 0 where
-  pub front : List ℕ
-  pub holds : now f.name ≡ Some front
-  pub of_text : IsFront front f.text
-
--- The first files, in their order, hold fronts of their texts; the next is as it was or empty,
--- those behind it are as they were.
-abbrev pub HoldFronts : List FileText → Held → Held → Type 0
-HoldFronts [] was now = Unit {0}
-HoldFronts (f ∷ fs) was now =
-    (HoldsFront f now × HoldFronts fs was now)
-    ⊎ (((now f.name ≡ was f.name) ⊎ (now f.name ≡ Some [])) × FilesStay fs was now)
-
--- the name is none of these files'
-abbrev pub IsNoFile : List ℕ → List FileText → Type 0
-IsNoFile name [] = Unit {0}
-IsNoFile name (f ∷ fs) = (name ≢ f.name) × IsNoFile name fs
-
--- each other name holds what it held
-abbrev pub OnlyThese : List FileText → Held → Held → Type 0
-OnlyThese files was now = (name : List ℕ) → IsNoFile name files → now name ≡ was name
 
 -- what a sink held stands before this text
 abbrev pub GrewBy : List ℕ → List ℕ → List ℕ → Type 0

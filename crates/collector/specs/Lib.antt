@@ -7,8 +7,10 @@ pub mod Ends
 pub mod Payload
 pub mod Pass
 pub mod Check
+pub mod Configured
 -- Inside a run, from line to line.
 pub mod Parsed
 pub mod Judged
 pub mod Between
 pub mod Lines
+pub mod RunLines

@@ -52,7 +52,7 @@ fn judge<P: PatternMaker>(alloc: Global, maker: &mut P, bytes: &[u8]) -> Result<
 }
 
 /// Writes a text to the output, a note to the notes.
-fn tell<O: Sink, N: Sink>(said: &Said, out: &mut O, notes: &mut N) -> Status
+pub(crate) fn tell<O: Sink, N: Sink>(said: &Said, out: &mut O, notes: &mut N) -> Status
     ensures tells { (disk : DiskView) → Tells result (answer_of said.now)
         (devices disk (O.seen out.old) (N.seen notes.old))
         (devices disk (O.seen out.new) (N.seen notes.new)) }

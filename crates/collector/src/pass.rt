@@ -11,69 +11,13 @@ ghost use Rattle.collector.specs.Pass.{note_of_fault, summary_by, pass_meaning};
 ghost use Rattle.collector.specs.Between.{start, Stands, LinesEnd};
 
 use crate::payload::rewrite;
+use crate::stop::Stop;
 use otlp_json::{PayloadFault, PayloadStop};
 use std::alloc::{AllocError, Global};
-use tele_io::{Disk, DiskFault, LineStop, Lines, Sink, SinkFault, append_all, write_all};
+use tele_io::{Disk, DiskFault, Lines, Sink, append_all, write_all};
 
 /// So many bytes are gathered before they are appended.
 const GATHERED: usize = 65_536;
-
-/// Why a run ends before it is complete.
-#[derive(Clone, Copy, Debug, PartialEq, Eq)]
-pub enum Stop {
-    ReadFault,
-    WriteFault,
-    NoMemory,
-    TooLong,
-}
-
-impl From<LineStop> for Stop {
-    ghost use Rattle.std.specs.Prelude.{◌≡◌};
-    ghost use Rattle.collector.specs.Lines.{stop_of};
-
-    ghost from_gives = { λ stop result. result ≡ stop_of stop };
-
-    fn from(stop: LineStop) -> Stop {
-        match stop {
-            LineStop::Fault => Stop::ReadFault,
-            LineStop::TooLong => Stop::TooLong,
-            LineStop::NoMemory => Stop::NoMemory,
-        }
-    }
-}
-
-impl From<DiskFault> for Stop {
-    ghost use Rattle.std.specs.Prelude.{◌≡◌};
-    ghost use Rattle.collector.specs.declared.pass.Stop.{Stop};
-
-    ghost from_gives = { λ _ result. result ≡ Stop.WriteFault };
-
-    fn from(_fault: DiskFault) -> Stop {
-        Stop::WriteFault
-    }
-}
-
-impl From<SinkFault> for Stop {
-    ghost use Rattle.std.specs.Prelude.{◌≡◌};
-    ghost use Rattle.collector.specs.declared.pass.Stop.{Stop};
-
-    ghost from_gives = { λ _ result. result ≡ Stop.WriteFault };
-
-    fn from(_fault: SinkFault) -> Stop {
-        Stop::WriteFault
-    }
-}
-
-impl From<AllocError> for Stop {
-    ghost use Rattle.std.specs.Prelude.{◌≡◌};
-    ghost use Rattle.collector.specs.declared.pass.Stop.{Stop};
-
-    ghost from_gives = { λ _ result. result ≡ Stop.NoMemory };
-
-    fn from(_error: AllocError) -> Stop {
-        Stop::NoMemory
-    }
-}
 
 /// What of the lines so far isn't written yet, and how many they are.
 #[derive(Drop)]

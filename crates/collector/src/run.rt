@@ -5,10 +5,11 @@ ghost use Rattle.contract_words.specs.InputLines.{max_lines};
 ghost use Rattle.collector.specs.Devices.{devices, Caused};
 ghost use Rattle.collector.specs.Ends.{Runs};
 ghost use Rattle.collector.specs.Lines.{SumsUp};
-ghost use Rattle.collector.specs.Pass.{pass_meaning};
+ghost use Rattle.collector.specs.Pass.{pass_meaning, summary_by};
 
-use crate::pass::{Progress, Stop, pass_lines};
+use crate::pass::{Progress, pass_lines};
 use crate::status::Status;
+use crate::stop::Stop;
 use std::alloc::Global;
 use tele_io::{Disk, Lines, Sink, write_all};
 
@@ -28,19 +29,11 @@ impl From<Stop> for Status {
     }
 }
 
-/// Writes the summary of a run that took all lines.
-fn sum_up<O: Sink>(alloc: Global, accepted: u32, refused: u32, out: &mut O) -> Status
-    requires { accepted + refused ≤ max_lines }
-    ensures { SumsUp result accepted refused (O.seen out.old) (O.seen out.new) }
+/// Writes the summary of a run that took all lines, and refused so many of them.
+pub(crate) fn write_summary<O: Sink>(summary: &[u8], refused: u128, out: &mut O) -> Status
+    ensures { SumsUp result summary.now refused (O.seen out.old) (O.seen out.new) }
 {
-    let payloads = accepted + refused;
-    let line = match format!(in alloc;
-        "payloads {payloads} accepted {accepted} refused {refused}\n"
-    ) {
-        Ok(line) => line,
-        Err(_) => return Status::NoMemory,
-    };
-    match write_all(out, line.as_bytes()) {
+    match write_all(out, summary) {
         Ok(()) => {}
         Err(_) => return Status::WriteFault,
     }
@@ -48,6 +41,18 @@ fn sum_up<O: Sink>(alloc: Global, accepted: u32, refused: u32, out: &mut O) -> S
         Status::Done
     } else {
         Status::SomeRefused
+    }
+}
+
+// The same of `pass`.
+fn sum_up<O: Sink>(alloc: Global, accepted: u32, refused: u32, out: &mut O) -> Status
+    requires { accepted + refused ≤ max_lines }
+    ensures { SumsUp result (summary_by accepted refused) refused (O.seen out.old) (O.seen out.new) }
+{
+    let payloads = accepted + refused;
+    match format!(in alloc; "payloads {payloads} accepted {accepted} refused {refused}\n") {
+        Ok(line) => write_summary(line.as_bytes(), refused as u128, out),
+        Err(_) => Status::NoMemory,
     }
 }
 

@@ -7,6 +7,7 @@ ghost use Rattle.export_sink.specs.Bundles.{bundle_of};
 ghost use Rattle.export_sink.specs.Left.{lines_by, left_bundle, refused_bundle, total_by};
 ghost use Rattle.export_sink.specs.Planning.{conf_in, RunFits};
 ghost use Rattle.leg_model.specs.Course.{no_counts};
+ghost use Rattle.leg_model.specs.Totals.{totals_of};
 ghost use Rattle.plain_legs.specs.Views.{outcome_of};
 
 use crate::lines::push_lines;
@@ -184,4 +185,17 @@ fn no_counts_of(alloc: Global, legs: &[Leg]) -> Result<ItemList<LegCounts>, Allo
         counts.push(NO_COUNTS)?;
     }
     Ok(counts)
+}
+
+/// The totals of no line.
+pub fn no_totals(alloc: Global, plan: &RunPlan<'_>) -> Result<Totals, AllocError>
+    ensures { IfOk result (λ totals. totals ≡ totals_of (conf_in plan.now) []) }
+{
+    let (_, files) = export_none(alloc, plan.legs.draft.exporters.as_slice())?;
+    Ok(Totals {
+        accepted: 0,
+        refused: 0,
+        legs: no_counts_of(alloc, plan.legs.legs)?,
+        files,
+    })
 }

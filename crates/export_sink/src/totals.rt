@@ -1,7 +1,7 @@
 //! What is counted on the lines of an input.
 
 ghost use Rattle.std.specs.Prelude.{◌≡◌, ◌+◌, IfOk};
-ghost use Rattle.export_sink.specs.Sums as spec;
+ghost use Rattle.leg_model.specs.Sums as spec;
 ghost use Rattle.leg_model.specs.Totals.{plus};
 
 use item_list::ItemList;

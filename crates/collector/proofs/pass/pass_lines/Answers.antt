@@ -6,13 +6,13 @@ use Rattle.collector.specs.Devices.{devices}
 use Rattle.contract_words.specs.Causes.{Rose}
 use Rattle.collector.specs.Lines.{tally_of, status_of, stop_of}
 use Rattle.collector.proofs.LineLemmas.{one_of}
-use Rattle.collector.proofs.Going.{going-begins, going-takes, going-read, going-on, line-ends, flush-ends, all-ends, stop-ends}
+use Rattle.collector.proofs.PassGoing.{pass-begins, pass-takes, pass-read, going-on, line-ends, flush-ends, all-ends, stop-ends}
 use Rattle.collector.proofs.Causes.{stay-itself, stay-then, caused-after, caused-before, read-stays, write-stays, read-stops}
 use Rattle.collector.proofs.pass.pass_lines.Goals as goal
 
 pub lines-init : goal.lines-init
 lines-init g c = record {
-  going = λ begun out stands. going-begins _ _ begun _ _ (tally_of c.args.progress.now) c.requires.first c.requires.fresh.0 c.requires.fresh.1 c.requires.fresh.2 stands;
+  going = λ begun out stands. pass-begins _ _ begun _ _ (tally_of c.args.progress.now) c.requires.first c.requires.fresh.0 c.requires.fresh.1 c.requires.fresh.2 stands;
   name = refl;
   live = subst (λ (p : Mark). IsTrue p.live) (sym c.requires.first) refl;
   room = omega (arith, c.requires.fresh.1, c.requires.fresh.2);
@@ -27,8 +27,8 @@ returns-in-Err-pass_line-clause-ends g c = λ begun out stands.
     let old_disk = g.D.Disk.seen c.lines.disk in
     let disk = g.D.Disk.seen c.next.new.disk in
     let notes = g.N.Sink.seen c.lines.notes in
-    let taken = going-takes _ _ begun c.lines.lines (tally_of c.lines.progress) _ old_disk disk out notes c.next.new.self _ c.requires.apart inv.name going c.in-Ok-Some.ensures.read in
-    line-ends _ _ begun c.lines.lines (tally_of c.lines.progress) disk out notes (going-read _ _ begun c.lines.lines (tally_of c.lines.progress) _ old_disk disk out notes going c.in-Ok-Some.ensures.read)
+    let taken = pass-takes _ _ begun c.lines.lines (tally_of c.lines.progress) _ old_disk disk out notes c.next.new.self _ c.requires.apart inv.name going c.in-Ok-Some.ensures.read in
+    line-ends _ _ begun c.lines.lines (tally_of c.lines.progress) disk out notes (pass-read _ _ begun c.lines.lines (tally_of c.lines.progress) _ old_disk disk out notes going c.in-Ok-Some.ensures.read)
     c.in-Err-pass_line.stop c.as_slice.result.now c.in-Ok-Some.line c.next.new.self (tally_of c.pass_line.new.self) _ _ c.as_slice.ensures.value (rw c.in-Ok-Some.field-0-is at taken)
     c.in-Err-pass_line.ensures.text c.in-Err-pass_line.ensures.note c.in-Err-pass_line.ensures.counts
 
@@ -42,8 +42,8 @@ lines-preserved g c =
     record {
       going = λ begun out stands.
           let going = inv.going begun out stands in
-          let taken = going-takes _ _ begun c.lines.lines (tally_of c.lines.progress) _ old_disk disk out notes c.next.new.self _ c.requires.apart inv.name going c.in-Ok-Some.ensures.read in
-          going-on _ _ begun c.lines.lines (tally_of c.lines.progress) disk out notes (going-read _ _ begun c.lines.lines (tally_of c.lines.progress) _ old_disk disk out notes going c.in-Ok-Some.ensures.read)
+          let taken = pass-takes _ _ begun c.lines.lines (tally_of c.lines.progress) _ old_disk disk out notes c.next.new.self _ c.requires.apart inv.name going c.in-Ok-Some.ensures.read in
+          going-on _ _ begun c.lines.lines (tally_of c.lines.progress) disk out notes (pass-read _ _ begun c.lines.lines (tally_of c.lines.progress) _ old_disk disk out notes going c.in-Ok-Some.ensures.read)
           c.as_slice.result.now c.in-Ok-Some.line c.next.new.self (tally_of c.pass_line.new.self) _ _ c.as_slice.ensures.value (rw c.in-Ok-Some.field-0-is at taken)
           c.in-Ok.ensures.text c.in-Ok.ensures.note c.in-Ok.ensures.counts;
       name = c.next.ensures.name ∙ inv.name;
@@ -65,8 +65,8 @@ returns-in-Ok-flush-clause-ends g c = λ begun out stands.
     let old_disk = g.D.Disk.seen c.lines.disk in
     let disk = g.D.Disk.seen c.next.new.disk in
     let notes = g.N.Sink.seen c.lines.notes in
-    let taken = going-takes _ _ begun c.lines.lines (tally_of c.lines.progress) _ old_disk disk out notes c.next.new.self _ c.requires.apart inv.name going c.in-Ok-None.ensures.read in
-    all-ends _ _ begun c.lines.lines (tally_of c.lines.progress) disk out notes (going-read _ _ begun c.lines.lines (tally_of c.lines.progress) _ old_disk disk out notes going c.in-Ok-None.ensures.read)
+    let taken = pass-takes _ _ begun c.lines.lines (tally_of c.lines.progress) _ old_disk disk out notes c.next.new.self _ c.requires.apart inv.name going c.in-Ok-None.ensures.read in
+    all-ends _ _ begun c.lines.lines (tally_of c.lines.progress) disk out notes (pass-read _ _ begun c.lines.lines (tally_of c.lines.progress) _ old_disk disk out notes going c.in-Ok-None.ensures.read)
     Global c.next.new.self (tally_of c.flush.new.self) _ (rw c.in-Ok-None.field-0-is at taken)
     c.in-Ok-flush.ensures.text.told c.in-Ok-flush.ensures.emptied c.flush.ensures.accepted c.flush.ensures.refused
 
@@ -76,7 +76,7 @@ returns-in-Err-flush-clause-ends g c = λ begun out stands.
     let old_disk = g.D.Disk.seen c.lines.disk in
     let disk = g.D.Disk.seen c.next.new.disk in
     let notes = g.N.Sink.seen c.lines.notes in
-    flush-ends _ _ begun c.lines.lines (tally_of c.lines.progress) disk out notes (going-read _ _ begun c.lines.lines (tally_of c.lines.progress) _ old_disk disk out notes (inv.going begun out stands) c.in-Ok-None.ensures.read)
+    flush-ends _ _ begun c.lines.lines (tally_of c.lines.progress) disk out notes (pass-read _ _ begun c.lines.lines (tally_of c.lines.progress) _ old_disk disk out notes (inv.going begun out stands) c.in-Ok-None.ensures.read)
     _ _ c.in-Err-flush.ensures.text.told
 
 pub returns-in-Ok-flush-2-clause-ends : goal.returns-in-Ok-flush-2-clause-ends
@@ -86,9 +86,9 @@ returns-in-Ok-flush-2-clause-ends g c = λ begun out stands.
     let old_disk = g.D.Disk.seen c.lines.disk in
     let disk = g.D.Disk.seen c.next.new.disk in
     let notes = g.N.Sink.seen c.lines.notes in
-    let taken = going-takes _ _ begun c.lines.lines (tally_of c.lines.progress) _ old_disk disk out notes c.next.new.self _ c.requires.apart inv.name going c.in-Err.ensures.read in
+    let taken = pass-takes _ _ begun c.lines.lines (tally_of c.lines.progress) _ old_disk disk out notes c.next.new.self _ c.requires.apart inv.name going c.in-Err.ensures.read in
     rw c.from.ensures
-    (stop-ends _ _ begun c.lines.lines (tally_of c.lines.progress) disk out notes (going-read _ _ begun c.lines.lines (tally_of c.lines.progress) _ old_disk disk out notes going c.in-Err.ensures.read)
+    (stop-ends _ _ begun c.lines.lines (tally_of c.lines.progress) disk out notes (pass-read _ _ begun c.lines.lines (tally_of c.lines.progress) _ old_disk disk out notes going c.in-Err.ensures.read)
     Global c.in-Err.line_stop c.next.new.self c.flush-in-Err.new.self.gathered.items _ taken c.in-Ok-flush-2.ensures.text.told c.in-Ok-flush-2.ensures.emptied)
 
 pub returns-in-Err-flush-2-clause-ends : goal.returns-in-Err-flush-2-clause-ends
@@ -97,7 +97,7 @@ returns-in-Err-flush-2-clause-ends g c = λ begun out stands.
     let old_disk = g.D.Disk.seen c.lines.disk in
     let disk = g.D.Disk.seen c.next.new.disk in
     let notes = g.N.Sink.seen c.lines.notes in
-    flush-ends _ _ begun c.lines.lines (tally_of c.lines.progress) disk out notes (going-read _ _ begun c.lines.lines (tally_of c.lines.progress) _ old_disk disk out notes (inv.going begun out stands) c.in-Err.ensures.read)
+    flush-ends _ _ begun c.lines.lines (tally_of c.lines.progress) disk out notes (pass-read _ _ begun c.lines.lines (tally_of c.lines.progress) _ old_disk disk out notes (inv.going begun out stands) c.in-Err.ensures.read)
     _ _ c.in-Err-flush-2.ensures.text.told
 
 -- the counts

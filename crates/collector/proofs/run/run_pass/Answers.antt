@@ -12,7 +12,7 @@ use Rattle.collector.proofs.run.run_pass.Goals as goal
 
 pub returns-in-Err-clause-runs : goal.returns-in-Err-clause-runs
 returns-in-Err-clause-runs g c =
-    runs-untouched _ _ (devices (g.D.Disk.seen c.args.disk.now) (g.O.Sink.seen c.args.out.now) (g.N.Sink.seen c.args.notes.now))
+    runs-untouched _ (devices (g.D.Disk.seen c.args.disk.now) (g.O.Sink.seen c.args.out.now) (g.N.Sink.seen c.args.notes.now))
 
 pub returns-in-Err-create-clause-runs : goal.returns-in-Err-create-clause-runs
 returns-in-Err-create-clause-runs g c = runs-uncreated _ _ _ _ _ _ c.in-Err-create.ensures
@@ -27,7 +27,7 @@ returns-in-Ok-pass_lines-clause-runs g c =
     let accepted = c.pass_lines.new.progress.accepted in
     let refused = c.pass_lines.new.progress.refused in
     let ends = c.in-Ok-pass_lines.ensures.ends old out (stands-created _ _ _ _ _ _ c.in-Ok-create.ensures) in
-    runs-summed _ old disk out (g.O.Sink.seen c.sum_up.new.out) notes accepted refused
+    runs-summed _ old disk out (g.O.Sink.seen c.sum_up.new.out) notes (summary_by accepted refused) refused
     (subst (λ (name : List ℕ). Completes (pass_meaning name c.args.output.now) (summary_by accepted refused) refused old (devices disk out notes)) named ends)
     c.sum_up.result c.sum_up.ensures
 
@@ -55,7 +55,7 @@ returns-in-Ok-pass_lines-clause-cause g c =
     let d2 = devices disk out new_notes in
     let d3 = devices disk new_out new_notes in
     caused-after d0 d2 d3 c.sum_up.result (stay-then d0 d1 d2 (write-stays old_disk mid_disk out notes c.in-Ok-create.ensures) (c.in-Ok-pass_lines.ensures.cause out))
-    (sum-causes c.sum_up.result disk out new_out new_notes c.pass_lines.new.progress.accepted c.pass_lines.new.progress.refused c.sum_up.ensures)
+    (sum-causes c.sum_up.result disk out new_out new_notes (summary_by c.pass_lines.new.progress.accepted c.pass_lines.new.progress.refused) c.pass_lines.new.progress.refused c.sum_up.ensures)
 
 pub returns-clause-cause : goal.returns-clause-cause
 returns-clause-cause g c =

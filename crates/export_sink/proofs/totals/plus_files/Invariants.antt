@@ -1,5 +1,5 @@
 use Rattle.std.proofs.Common.{◌≡◌, ◌++◌, length}
-use Rattle.export_sink.specs.Sums as spec
+use Rattle.leg_model.specs.Sums as spec
 use Rattle.export_sink.proofs.totals.plus_files.Given as goal
 
 -- the sums that are made, then those that are left, are all
