@@ -6,4 +6,4 @@ use Rattle.graph_build.proofs.plan.legs_in.Goals as goal
 pub returns : goal.returns
 unfolding conf_of
 returns c =
-    finds-legs (settings_of c.args.settings.now) c.legs_of_draft.result c.requires c.legs_of_draft.ensures
+    finds-legs (settings_of c.args.settings.now) c.legs_of_draft.result c.legs_of_draft.ensures.spelled c.legs_of_draft.ensures.legs

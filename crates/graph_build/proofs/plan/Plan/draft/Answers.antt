@@ -7,4 +7,4 @@ pub returns : goal.returns
 unfolding conf_of
 returns c =
     rw (← c.self.view_is)
-    (part-of (λ meant. meant.draft) c.draft.result.now (settings_of c.self.inside.settings) c.self.inside.legs c.self.invariant c.draft.ensures)
+    (part-of (λ meant. meant.draft) c.draft.result.now (settings_of c.self.inside.settings) c.self.inside.legs c.self.invariant c.draft.ensures.value)
