@@ -6,3 +6,5 @@ pub mod Legs
 pub mod Exports
 pub mod Notes
 pub mod Totals
+-- Totals added up.
+pub mod Sums

@@ -1,8 +1,14 @@
 //! What a leg gets, leaves and counts, and what its exporters get.
 #![tactic(auto)]
 
+mod laws;
+
 use conf_json::Note;
 use item_list::ItemList;
+pub use laws::{exports_grow, notes_grow, totals_add_up};
+
+#[cfg(test)]
+mod tests;
 
 /// An error on a leg.
 #[derive(Clone, Copy, Debug, PartialEq, Eq)]

@@ -1,0 +1,2 @@
+-- What is written, noted and counted grows by lines.
+pub mod Growing
