@@ -8,3 +8,5 @@ pub mod Notes
 pub mod Totals
 -- Totals added up.
 pub mod Sums
+-- What the laws say.
+pub mod Facts
