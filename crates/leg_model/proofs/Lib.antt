@@ -14,3 +14,6 @@ mod Routes
 mod Noting
 -- What exporters get.
 mod Exporting
+-- Steps of a leg.
+mod Stepping
+mod Ending

@@ -10,3 +10,5 @@ pub mod Totals
 pub mod Sums
 -- What the laws say.
 pub mod Facts
+-- A leg step by step.
+pub mod Steps

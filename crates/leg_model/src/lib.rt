@@ -4,6 +4,7 @@
 mod export_laws;
 mod laws;
 mod leg_laws;
+mod step_laws;
 
 use conf_json::Note;
 pub use export_laws::{
@@ -16,6 +17,7 @@ pub use leg_laws::{
     counts_of_a_leg_add_up, defaults_take_the_rest, failed_legs_hand_on_nothing,
     first_errors_are_noted, legs_get_what_is_handed, nothing_leaves_nothing,
 };
+pub use step_laws::steps_come_to_what_is_meant;
 
 #[cfg(test)]
 mod tests;

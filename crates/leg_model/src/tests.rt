@@ -4,7 +4,7 @@ use crate::{
     counts_of_a_leg_add_up, defaults_take_the_rest, exporters_get_by_their_pipelines, exports_grow,
     failed_legs_hand_on_nothing, first_errors_are_noted, legs_get_what_is_handed,
     lines_are_of_trees_with_resources, notes_grow, nothing_leaves_nothing,
-    payloads_are_accepted_or_refused, totals_add_up,
+    payloads_are_accepted_or_refused, steps_come_to_what_is_meant, totals_add_up,
 };
 
 #[test]
@@ -21,4 +21,5 @@ fn laws_hold_of_all_configurations() {
     lines_are_of_trees_with_resources();
     exporters_get_by_their_pipelines();
     payloads_are_accepted_or_refused();
+    steps_come_to_what_is_meant();
 }
