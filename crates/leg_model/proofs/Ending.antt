@@ -1,6 +1,5 @@
 -- Steps of a leg come to an end.
 use Rattle.std.proofs.Common.{◌≡◌, ◌∙◌, ◌+◌, ◌<◌, ℕ, zero, suc, Bool, true, false, not, List, [], ◌∷◌, Result, Ok, Err, refl, sym, ap, subst, arith}
-use Rattle.conf_draft.specs.declared.draft.ErrorMode.{ErrorMode}
 use Rattle.conf_json.specs.Account.{Account}
 use Rattle.conf_json.specs.declared.account.Note.{Note}
 use Rattle.conf_json.specs.declared.account.Part.TheVariants.{GroupCondition, Statement}
@@ -19,7 +18,7 @@ use Rattle.leg_model.specs.Course.{Course, Failure, Outcome, after_connector, af
 use Rattle.leg_model.specs.Exports.{logs}
 use Rattle.leg_model.specs.Facts.{entry}
 use Rattle.leg_model.specs.Legs.{leg_outcome}
-use Rattle.leg_model.specs.Parts.{Parts, parts_of}
+use Rattle.leg_model.specs.Parts.{Parts}
 use Rattle.leg_model.specs.Steps.{IsLength, LegState, Standing, at_connectors, at_processors, behind, by_groups, entered, entering, ending, filter_came, filtering, grouping, is_over, leg_step, leg_steps, over, parts_on, rest_of, routing, state_alone, transform_came, transforming}
 use Rattle.ottl_eval.specs.Stages.{Stage, stage}
 use Rattle.ottl_plan.specs.declared.planned.PlannedStatement.{PlannedStatement}
@@ -30,7 +29,7 @@ use Rattle.pdata_tree.specs.declared.place.Context.TheVariants.{Resource}
 use Rattle.pdata_tree.specs.declared.place.Place.{Place}
 use Rattle.pdata_value.specs.declared.pairs.Pairs.{Pairs}
 use Rattle.proc_targets.specs.Judging.{no_pairs}
-use Rattle.proc_targets.specs.Stepping.{Stepped, On, End, Fail}
+use Rattle.proc_targets.specs.Stepping.{Stepped, End, Fail}
 use Rattle.routing_conn.specs.Meaning.{routed}
 use Rattle.transform_proc.specs.Meaning.{spot_of, statement_run, taken}
 use Rattle.transform_proc.specs.Steps as transform

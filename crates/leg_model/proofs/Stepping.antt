@@ -1,5 +1,5 @@
 -- Steps of a leg leave what is meant, and come to an end.
-use Rattle.std.proofs.Common.{◌≡◌, ◌∙◌, ◌+◌, ℕ, zero, suc, Bool, true, false, List, [], ◌∷◌, ◌++◌, length, drop, map, Result, Ok, Err, refl, sym, ap, subst, arith, append-nil, add-zero}
+use Rattle.std.proofs.Common.{◌≡◌, ◌∙◌, ◌+◌, ℕ, zero, suc, List, [], ◌∷◌, ◌++◌, length, drop, Result, Ok, Err, refl, sym, ap, arith, append-nil, add-zero}
 use Rattle.conf_json.specs.Account.{Account}
 use Rattle.conf_json.specs.declared.account.Note.{Note}
 use Rattle.conf_json.specs.declared.settings.FilterSettings.{FilterSettings}
@@ -10,7 +10,7 @@ use Rattle.conf_json.specs.declared.settings.RouteSettings.{RouteSettings}
 use Rattle.conf_json.specs.declared.settings.TransformSettings.{TransformSettings}
 use Rattle.filter_proc.proofs.Steps as filter_law
 use Rattle.filter_proc.specs.Steps as filter
-use Rattle.leg_model.specs.Course.{◌>>=◌, Course, Failure, Outcome, after_connector, after_processor, by_connector, by_connectors, by_parts, by_processor, by_processors, ended, gained, left_of, numbered, outcome, processed, start, untouched}
+use Rattle.leg_model.specs.Course.{◌>>=◌, Course, Failure, after_connector, after_processor, by_connectors, by_processor, by_processors, ended, left_of, numbered, start}
 use Rattle.leg_model.specs.Parts.{Parts}
 use Rattle.leg_model.specs.Steps.{LegState, Standing, at_connectors, at_processors, behind, by_all, by_groups, entered, entering, ending, filter_came, filtering, finished, grouping, leg_step, leg_steps, over, rest_of, routing, transform_came, transforming}
 use Rattle.leg_model.specs.declared.LegNote.{LegNote}
@@ -19,9 +19,9 @@ use Rattle.pdata_tree.specs.declared.path.PathTo.{PathTo}
 use Rattle.pdata_tree.specs.declared.place.Context.TheVariants.{Resource}
 use Rattle.pdata_tree.specs.declared.place.Place.{Place}
 use Rattle.proc_targets.specs.Stepping.{Stepped, On, End, Fail}
-use Rattle.routing_conn.specs.Meaning.{Routed, routed}
+use Rattle.routing_conn.specs.Meaning.{routed}
 use Rattle.transform_proc.proofs.Steps as transform_law
-use Rattle.transform_proc.specs.Meaning.{GroupTurn, groups_run, spot_of, statement_run, taken}
+use Rattle.transform_proc.specs.Meaning.{groups_run, taken}
 use Rattle.transform_proc.specs.Steps as transform
 
 drop-all : {X : Type 0} (xs : List X) → drop (length xs) xs ≡ []

@@ -1,5 +1,6 @@
 -- What is said of what legs get, leave and count.
-use Rattle.std.specs.Prelude.{◌≡◌, ◌≢◌, ◌<◌, ◌+◌, ℕ, false, List, [], ◌∷◌, length, Option, Some, None, IsSome, slice_get}
+use Rattle.std.specs.Prelude.{◌≡◌, ◌≢◌, ◌<◌, ◌+◌, ℕ, false, List, [], ◌∷◌, length, slice_get}
+use Rattle.std.specs.Prelude.{Option, Some, None, IsSome}
 use Rattle.conf_draft.specs.References.{is_among}
 use Rattle.conf_draft.specs.declared.draft.Pipeline.{Pipeline}
 use Rattle.conf_json.specs.declared.settings.RouteSettings.{RouteSettings}

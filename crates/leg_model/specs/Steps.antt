@@ -1,8 +1,6 @@
 -- A leg step by step, alone: with the legs above it at their end, and every other leg absent. The
 -- first step takes the leg's tree, then each part does its steps, and the last one counts.
 use Rattle.std.specs.Prelude.{◌≡◌, ◌<◌, ℕ, zero, suc, Bool, true, false, List, [], ◌∷◌, Result, Ok, Err}
-use Rattle.conf_json.specs.Account.{Account}
-use Rattle.conf_json.specs.declared.account.Note.{Note}
 use Rattle.conf_json.specs.declared.settings.FilterSettings.{FilterSettings}
 use Rattle.conf_json.specs.declared.settings.Group.{Group}
 use Rattle.conf_json.specs.declared.settings.GroupSettings.{GroupSettings}
@@ -24,7 +22,7 @@ use Rattle.pdata_tree.specs.declared.path.PathTo.{PathTo}
 use Rattle.pdata_tree.specs.declared.place.Context.TheVariants.{Resource}
 use Rattle.pdata_tree.specs.declared.place.Place.{Place}
 use Rattle.proc_targets.specs.Stepping.{Stepped, On, End, Fail}
-use Rattle.routing_conn.specs.Meaning.{Routed, routed}
+use Rattle.routing_conn.specs.Meaning.{routed}
 use Rattle.transform_proc.specs.Steps as transform
 
 -- Where a leg stands in its pipeline: the log records that it took, the number of the part that it
