@@ -6,3 +6,9 @@ pub mod Legs
 pub mod Exports
 pub mod Notes
 pub mod Totals
+-- Totals added up.
+pub mod Sums
+-- What the laws say.
+pub mod Facts
+-- A leg step by step.
+pub mod Steps
