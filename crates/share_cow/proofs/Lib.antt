@@ -9,4 +9,5 @@ pub mod Release
 pub mod Added
 pub mod Growing
 pub mod Apart
+pub mod Unshared
 pub mod Plant

@@ -2,6 +2,7 @@
 pub mod Store
 pub mod Levels
 pub mod Kept
+pub mod Emptied
 -- Lists of roots.
 pub mod RootLists
 -- Inside the crate: how nodes go and come.

@@ -3,7 +3,7 @@
 ghost use Rattle.std.specs.Prelude.{◌≡◌, ◌<◌, ◌+◌, ◌-◌, ◌^◌, ◌↔◌, [], min, None, Some, IfOk, OnOk, OnErr, IsTrue};
 ghost use Rattle.pdata_tree.specs.Tree.{nodes};
 ghost use Rattle.share_cow.specs.Kept.{AllStay, OthersStay, SharesWith};
-ghost use Rattle.share_cow.specs.Store.{IsLiveRoot, IsSound, den, made, root_at, spare};
+ghost use Rattle.share_cow.specs.Store.{IsLiveRoot, IsSound, den, made, root_at, shared, spare};
 
 use crate::lowering::lower_batch;
 use crate::node::Node;
@@ -105,6 +105,7 @@ impl Forest {
         ensures tree { IfOk result (λ root. den self.new root ≡ Some batch) }
         ensures live { IfOk result (λ root. IsLiveRoot self.new root) }
         ensures fresh { IfOk result (λ root. root_at self.old root ≡ None) }
+        ensures unshared { IfOk result (λ root. shared self.new root ≡ 0) }
         ensures others { IfOk result (λ root. OthersStay root self.old self.new) }
         ensures spare { OnOk result (spare self.new + 1 ≡ spare self.old) }
         ensures made { OnOk result

@@ -2,12 +2,14 @@
 #![tactic(auto)]
 
 mod forest;
+mod laws;
 mod lowering;
 mod node;
 mod planting;
 mod root;
 
 pub use forest::Forest;
+pub use laws::nothing_is_left_without_roots;
 pub use root::{Root, Roots};
 
 #[cfg(test)]

@@ -59,7 +59,7 @@ fn after_planting(alloc: Global) -> Result<(u128, u32), AllocError> {
 }
 
 #[test]
-fn planting_makes_each_node_once(rt: HostRuntime) -> Result<(), Fail> {
+fn planting_one_record_makes_four_nodes(rt: HostRuntime) -> Result<(), Fail> {
     assert_eq!(rt; after_planting(rt.alloc())?, (4, 1));
     Ok(())
 }
@@ -91,16 +91,24 @@ fn release(forest: &mut Forest, root: Root) {
     }
 }
 
-fn after_release(alloc: Global) -> Result<(u128, u32), AllocError> {
+fn after_releases(alloc: Global, first_first: bool) -> Result<(u128, u32), AllocError> {
     let mut forest = Forest::new(alloc, 2)?;
-    let root = forest.plant(one_record(alloc)?)?;
-    release(&mut forest, root);
+    let first = forest.plant(one_record(alloc)?)?;
+    let second = forest.share(&first);
+    let (one, other) = if first_first {
+        (first, second)
+    } else {
+        (second, first)
+    };
+    release(&mut forest, one);
+    release(&mut forest, other);
     Ok((forest.made(), forest.spare()))
 }
 
 #[test]
-fn a_released_root_is_spare_again(rt: HostRuntime) -> Result<(), Fail> {
-    assert_eq!(rt; after_release(rt.alloc())?, (4, 2));
+fn roots_are_released_in_every_order(rt: HostRuntime) -> Result<(), Fail> {
+    assert_eq!(rt; after_releases(rt.alloc(), true)?, (4, 2));
+    assert_eq!(rt; after_releases(rt.alloc(), false)?, (4, 2));
     Ok(())
 }
 
