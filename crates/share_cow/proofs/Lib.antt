@@ -11,3 +11,10 @@ pub mod Growing
 pub mod Apart
 pub mod Unshared
 pub mod Plant
+pub mod CopyCounts
+pub mod CopyTrees
+pub mod CopySharing
+pub mod CopyExact
+pub mod CopyApart
+pub mod CopyPaths
+pub mod CopyWent

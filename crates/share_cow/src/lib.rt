@@ -9,7 +9,7 @@ mod planting;
 mod root;
 
 pub use forest::Forest;
-pub use laws::nothing_is_left_without_roots;
+pub use laws::{a_way_makes_what_it_owes, nothing_is_left_without_roots};
 pub use root::{Root, Roots};
 
 #[cfg(test)]
