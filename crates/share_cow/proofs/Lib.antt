@@ -10,6 +10,8 @@ pub mod Added
 pub mod Growing
 pub mod Apart
 pub mod Unshared
+pub mod Looks
+pub mod Views
 pub mod Plant
 pub mod CopyCounts
 pub mod CopyTrees

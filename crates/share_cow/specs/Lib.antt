@@ -2,6 +2,7 @@
 pub mod Store
 pub mod Levels
 pub mod Kept
+pub mod Views
 pub mod Emptied
 -- How a shared node is made anew.
 pub mod Copies

@@ -9,6 +9,7 @@ use crate::lowering::lower_batch;
 use crate::node::Node;
 use crate::planting::plant_batch;
 use crate::root::Root;
+use crate::view::RootView;
 use pdata_tree::{Batch, LogRecord, ResourceNode, ScopeNode};
 use shelf::Shelf;
 use slab::Slab;
@@ -159,6 +160,21 @@ impl Forest {
             &mut self.logs,
             batch,
         );
+    }
+
+    /// The tree of a root, seen where it stands.
+    pub fn view(&self, root: &Root) -> RootView<'_>
+        requires { IsLiveRoot self.now root.now }
+        ensures { den self.now root.now ≡ Some result }
+    {
+        let batch = self.batch_at(root);
+        RootView::new(
+            &self.batches,
+            &self.resources,
+            &self.scopes,
+            &self.logs,
+            batch,
+        )
     }
 
     // The batch of a live root.
