@@ -1,6 +1,6 @@
 -- What an exporter gets of the lines of an input: what the pipelines above it leave of each payload.
 use Rattle.std.specs.List.{concat}
-use Rattle.std.specs.Prelude.{ℕ, Bool, List, [], ◌∷◌, ◌++◌, Option, Some, None, Result, Ok, Err, if◌then◌else◌}
+use Rattle.std.specs.Prelude.{ℕ, Bool, List, [], ◌∷◌, ◌++◌, Option, Some, None, Ok, Err, if◌then◌else◌}
 use Rattle.conf_draft.specs.References.{is_among}
 use Rattle.conf_draft.specs.declared.draft.Draft.{Draft}
 use Rattle.conf_draft.specs.declared.draft.Pipeline.{Pipeline}

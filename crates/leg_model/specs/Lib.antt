@@ -8,3 +8,7 @@ pub mod Notes
 pub mod Totals
 -- Totals added up.
 pub mod Sums
+-- What the laws say.
+pub mod Facts
+-- A leg step by step.
+pub mod Steps

@@ -1,8 +1,7 @@
 -- What is noted of the lines of an input: each refused payload, and the errors of each leg on the
 -- others.
-use Rattle.std.specs.Prelude.{ℕ, suc, List, [], ◌∷◌, ◌++◌, Option, Some, None, codes, slice_get, unwrap_or, Result, Ok, Err}
+use Rattle.std.specs.Prelude.{ℕ, suc, List, [], ◌∷◌, ◌++◌, Option, Some, None, codes, slice_get, unwrap_or, Ok, Err}
 use Rattle.std.specs.Fmt.{decimal}
-use Rattle.conf_json.specs.declared.account.Note.{Note}
 use Rattle.conf_json.specs.declared.account.Part.{Part}
 use Rattle.conf_json.specs.declared.account.Part.TheVariants.{Statement, GroupCondition, FilterCondition, RouteRow}
 use Rattle.graph_build.specs.declared.leg.Leg.{Leg}

@@ -1,5 +1,5 @@
 -- What is counted over the lines of an input, and its summary.
-use Rattle.std.specs.Prelude.{ℕ, suc, ◌+◌, List, [], ◌∷◌, ◌++◌, length, map, codes, Result, Ok, Err}
+use Rattle.std.specs.Prelude.{ℕ, suc, ◌+◌, List, [], ◌∷◌, ◌++◌, length, map, codes, Ok, Err}
 use Rattle.std.specs.Fmt.{decimal}
 use Rattle.conf_draft.specs.declared.draft.Exporter.{Exporter}
 use Rattle.graph_build.specs.declared.leg.Leg.{Leg}

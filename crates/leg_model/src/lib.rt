@@ -1,11 +1,23 @@
 //! What a leg gets, leaves and counts, and what its exporters get.
 #![tactic(auto)]
 
+mod export_laws;
 mod laws;
+mod leg_laws;
+mod step_laws;
 
 use conf_json::Note;
+pub use export_laws::{
+    exporters_get_by_their_pipelines, lines_are_of_trees_with_resources,
+    payloads_are_accepted_or_refused,
+};
 use item_list::ItemList;
 pub use laws::{exports_grow, notes_grow, totals_add_up};
+pub use leg_laws::{
+    counts_of_a_leg_add_up, defaults_take_the_rest, failed_legs_hand_on_nothing,
+    first_errors_are_noted, legs_get_what_is_handed, nothing_leaves_nothing,
+};
+pub use step_laws::steps_come_to_what_is_meant;
 
 #[cfg(test)]
 mod tests;

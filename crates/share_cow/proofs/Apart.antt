@@ -92,7 +92,7 @@ module _ (l m l2 m2 : Level Part) (before : Counted l l2) (after : Counted m m2)
   ]
 
 -- places that don't come again below a node
-sum_none : (f : ℕ → ℕ) (qs : List ℕ) → ((q : ℕ) → 0 < times q qs → f q ≡ 0) → sum_over f qs ≡ 0
+pub sum_none : (f : ℕ → ℕ) (qs : List ℕ) → ((q : ℕ) → 0 < times q qs → f q ≡ 0) → sum_over f qs ≡ 0
 sum_none f [] none = refl
 sum_none f (q ∷ qs) none = omega (arith, none q (omega (arith, times_head q qs)), sum_none f qs (λ r h. none r (omega (arith, h))))
 

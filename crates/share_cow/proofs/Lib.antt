@@ -9,4 +9,14 @@ pub mod Release
 pub mod Added
 pub mod Growing
 pub mod Apart
+pub mod Unshared
+pub mod Looks
+pub mod Views
 pub mod Plant
+pub mod CopyCounts
+pub mod CopyTrees
+pub mod CopySharing
+pub mod CopyExact
+pub mod CopyApart
+pub mod CopyPaths
+pub mod CopyWent

@@ -14,6 +14,15 @@ pub times_append : (p : ℕ) (xs ys : List ℕ) → times p (xs ++ ys) ≡ times
 times_append p [] ys = omega arith
 times_append p (x ∷ xs) ys = omega (arith, times_append p xs ys)
 
+pub sum_append : (f : ℕ → ℕ) (xs ys : List ℕ) → sum_over f (xs ++ ys) ≡ sum_over f xs + sum_over f ys
+sum_append f [] ys = omega arith
+sum_append f (x ∷ xs) ys = omega (arith, sum_append f xs ys)
+
+-- a list that names a place adds its part to the sum
+pub sum_at_least : (f : ℕ → ℕ) (q : ℕ) (qs : List ℕ) → 0 < times q qs → f q ≤ sum_over f qs
+sum_at_least f q [] h = omega arith
+sum_at_least f q (r ∷ qs) h = grind (arith, nat_tests, sum_at_least f q qs)
+
 pub times_at : (p : ℕ) (ls : List (List ℕ)) (i : ℕ) → times p (list_at ls i) ≤ named p ls
 times_at p [] i = omega arith
 times_at p (l ∷ ls) zero = omega arith
@@ -91,3 +100,9 @@ times_next qs i h =
       times_append (get_or qs i 0) (take i qs) (get_or qs i 0 ∷ drop (i + 1) qs),
       times_head (get_or qs i 0) (drop (i + 1) qs),
     )
+
+-- what is named in a list is met in it
+pub entry_times : (qs : List ℕ) (i : ℕ) → i < length qs → 0 < times (get_or qs i 0) qs
+entry_times [] i h = absurd (omega arith)
+entry_times (q ∷ qs) zero h = omega (arith, times_head q qs)
+entry_times (q ∷ qs) (suc i) h = omega (arith, entry_times qs i (omega arith))

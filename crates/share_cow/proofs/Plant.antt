@@ -11,13 +11,14 @@ use Rattle.share_cow.specs.Kept.{AllStay, OthersStay, SameTree}
 use Rattle.share_cow.specs.Levels.{AllCounted, Counted, IsApart, Level, named, shared_places, stands, sum_over, times, value}
 use Rattle.share_cow.specs.Lowering.{AllAgree}
 use Rattle.share_cow.specs.Planting.{AllMore, AllSame, Grows, Restores, scopes_of_resources}
-use Rattle.share_cow.specs.Store.{IsKept, IsSound, Part, Store, a_batch, as_batch, batch_level, batch_made, batch_named, den, first_part, levels, log_level, made, nothing, resource_level, resource_made, root_at, root_level, scope_level, scope_made, shared, tree_levels}
+use Rattle.share_cow.specs.Store.{IsKept, IsSound, Part, Store, a_batch, as_batch, batch_level, batch_made, batch_named, den, first_part, levels, log_level, log_made, made, nothing, resource_level, resource_made, root_at, root_level, scope_level, scope_made, shared, tree_levels}
 use Rattle.share_cow.proofs.Added.{newer}
 use Rattle.share_cow.proofs.Apart.{new_apart}
 use Rattle.share_cow.proofs.Growing.{New, tidy_level}
 use Rattle.share_cow.proofs.Lists.{named_but, sum_below, times_at, times_head}
 use Rattle.share_cow.proofs.Same.{FewerFrom, SameFrom, one_at_most, same_from, shared_fewer}
 use Rattle.share_cow.proofs.Table.{apart_same, den_same, live_root, root_list}
+use Rattle.share_cow.proofs.Unshared.{new_unshared}
 
 still_few : (l m : Level Part) (p : ℕ) → New l m p → 0 < l.count p → m.count p ≤ l.count p
 still_few l m p (inl e) live = omega (arith, e)
@@ -121,6 +122,25 @@ module _ (s s2 : Store) (key place : ℕ) (tree : Batch) (sound : IsSound s) (fr
     trees = λ other d. same_tree s s2 sound g.agree all_more other (others other d);
     shared = λ other d. same_shared s s2 sound g.agree all_more other (others other d);
   }
+
+  -- and none of its tree's places is shared
+  pub plant_unshared : shared s2 key ≡ 0
+  plant_unshared =
+      omega (
+        arith,
+        ap (λ (o : Option ℕ). sum_over (shared_places false (tree_levels s2)) (batch_named o)) set,
+        new_unshared (batch_level s.batches) (batch_level s2.batches) (resource_level s.resources ∷ scope_level s.scopes ∷ log_level s.logs ∷ [])
+            (resource_level s2.resources ∷ scope_level s2.scopes ∷ log_level s2.logs ∷ []) sound.counts.1 g.counted g.agree (
+              tidy_level batch_made s.batches sound.batches,
+              (
+                tidy_level resource_made s.resources sound.resources,
+                (
+                  tidy_level scope_made s.scopes sound.scopes,
+                  (tidy_level log_made s.logs sound.logs, tt),
+                ),
+              ),
+            ) all_more place was_new,
+      )
 
   key_apart : (batches : IsKept s.batches) (resources : IsKept s.resources) (scopes : IsKept s.scopes) → IsApart (levels s2) key
   key_apart batches resources scopes zero q h = one_at_most (key == q)

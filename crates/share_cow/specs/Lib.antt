@@ -2,6 +2,10 @@
 pub mod Store
 pub mod Levels
 pub mod Kept
+pub mod Views
+pub mod Emptied
+-- How a shared node is made anew.
+pub mod Copies
 -- Lists of roots.
 pub mod RootLists
 -- Inside the crate: how nodes go and come.

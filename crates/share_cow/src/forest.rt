@@ -3,12 +3,13 @@
 ghost use Rattle.std.specs.Prelude.{◌≡◌, ◌<◌, ◌+◌, ◌-◌, ◌^◌, ◌↔◌, [], min, None, Some, IfOk, OnOk, OnErr, IsTrue};
 ghost use Rattle.pdata_tree.specs.Tree.{nodes};
 ghost use Rattle.share_cow.specs.Kept.{AllStay, OthersStay, SharesWith};
-ghost use Rattle.share_cow.specs.Store.{IsLiveRoot, IsSound, den, made, root_at, spare};
+ghost use Rattle.share_cow.specs.Store.{IsLiveRoot, IsSound, den, made, root_at, shared, spare};
 
 use crate::lowering::lower_batch;
 use crate::node::Node;
 use crate::planting::plant_batch;
 use crate::root::Root;
+use crate::view::RootView;
 use pdata_tree::{Batch, LogRecord, ResourceNode, ScopeNode};
 use shelf::Shelf;
 use slab::Slab;
@@ -105,6 +106,7 @@ impl Forest {
         ensures tree { IfOk result (λ root. den self.new root ≡ Some batch) }
         ensures live { IfOk result (λ root. IsLiveRoot self.new root) }
         ensures fresh { IfOk result (λ root. root_at self.old root ≡ None) }
+        ensures unshared { IfOk result (λ root. shared self.new root ≡ 0) }
         ensures others { IfOk result (λ root. OthersStay root self.old self.new) }
         ensures spare { OnOk result (spare self.new + 1 ≡ spare self.old) }
         ensures made { OnOk result
@@ -158,6 +160,21 @@ impl Forest {
             &mut self.logs,
             batch,
         );
+    }
+
+    /// The tree of a root, seen where it stands.
+    pub fn view(&self, root: &Root) -> RootView<'_>
+        requires { IsLiveRoot self.now root.now }
+        ensures { den self.now root.now ≡ Some result }
+    {
+        let batch = self.batch_at(root);
+        RootView::new(
+            &self.batches,
+            &self.resources,
+            &self.scopes,
+            &self.logs,
+            batch,
+        )
     }
 
     // The batch of a live root.

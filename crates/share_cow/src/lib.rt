@@ -2,13 +2,18 @@
 #![tactic(auto)]
 
 mod forest;
+mod laws;
+mod looking;
 mod lowering;
 mod node;
 mod planting;
 mod root;
+mod view;
 
 pub use forest::Forest;
+pub use laws::{a_way_makes_what_it_owes, nothing_is_left_without_roots};
 pub use root::{Root, Roots};
+pub use view::RootView;
 
 #[cfg(test)]
 mod tests;

@@ -1,6 +1,9 @@
 //! Roots come, share their trees, and go.
 
-use crate::{Forest, Root, Roots};
+ghost use Rattle.std.specs.Prelude.{◌≡◌, IfOk};
+ghost use Rattle.pdata_tree.specs.Tree.{IsCountable, nodes, nodes_of_scopes};
+
+use crate::{Forest, Root, RootView, Roots};
 use item_list::ItemList;
 use pdata_tree::{
     Batch, LogRecord, Logs, ResourceNode, ResourceTree, Resources, ScopeNode, ScopeTree, Scopes,
@@ -24,7 +27,9 @@ fn record(alloc: Global) -> Result<LogRecord, AllocError> {
     })
 }
 
-fn scopes(alloc: Global) -> Result<Scopes, AllocError> {
+fn scopes(alloc: Global) -> Result<Scopes, AllocError>
+    ensures { IfOk result (λ scopes. nodes_of_scopes scopes ≡ 2) }
+{
     let mut logs: Logs = ItemList::new(alloc);
     logs.push(record(alloc)?)?;
     let node = ScopeNode {
@@ -40,7 +45,9 @@ fn scopes(alloc: Global) -> Result<Scopes, AllocError> {
 }
 
 // A payload of one log record.
-fn one_record(alloc: Global) -> Result<Batch, AllocError> {
+fn one_record(alloc: Global) -> Result<Batch, AllocError>
+    ensures { IfOk result (λ batch. nodes batch ≡ 4) }
+{
     let node = ResourceNode {
         attributes: Pairs::new(alloc),
         dropped: 0,
@@ -59,7 +66,7 @@ fn after_planting(alloc: Global) -> Result<(u128, u32), AllocError> {
 }
 
 #[test]
-fn planting_makes_each_node_once(rt: HostRuntime) -> Result<(), Fail> {
+fn planting_one_record_makes_four_nodes(rt: HostRuntime) -> Result<(), Fail> {
     assert_eq!(rt; after_planting(rt.alloc())?, (4, 1));
     Ok(())
 }
@@ -91,16 +98,60 @@ fn release(forest: &mut Forest, root: Root) {
     }
 }
 
-fn after_release(alloc: Global) -> Result<(u128, u32), AllocError> {
+fn after_releases(alloc: Global, first_first: bool) -> Result<(u128, u32), AllocError> {
     let mut forest = Forest::new(alloc, 2)?;
-    let root = forest.plant(one_record(alloc)?)?;
-    release(&mut forest, root);
+    let first = forest.plant(one_record(alloc)?)?;
+    let second = forest.share(&first);
+    let (one, other) = if first_first {
+        (first, second)
+    } else {
+        (second, first)
+    };
+    release(&mut forest, one);
+    release(&mut forest, other);
     Ok((forest.made(), forest.spare()))
 }
 
 #[test]
-fn a_released_root_is_spare_again(rt: HostRuntime) -> Result<(), Fail> {
-    assert_eq!(rt; after_release(rt.alloc())?, (4, 2));
+fn roots_are_released_in_every_order(rt: HostRuntime) -> Result<(), Fail> {
+    assert_eq!(rt; after_releases(rt.alloc(), true)?, (4, 2));
+    assert_eq!(rt; after_releases(rt.alloc(), false)?, (4, 2));
+    Ok(())
+}
+
+fn counts_seen(view: &RootView<'_>) -> (u32, u32, u32, u64)
+    requires { IsCountable view.now }
+{
+    let records = view.count_records();
+    let resources = view.resources();
+    if resources == 0 {
+        return (0, 0, 0, records);
+    }
+    let scopes = view.scopes(0);
+    if scopes == 0 {
+        return (resources, 0, 0, records);
+    }
+    (resources, scopes, view.logs(0, 0), records)
+}
+
+fn seen_of_one_record(alloc: Global) -> Result<(u32, u32, u32, u64), AllocError> {
+    let mut forest = Forest::new(alloc, 2)?;
+    let root = forest.plant(one_record(alloc)?)?;
+    let seen = counts_seen(&forest.view(&root));
+    Ok(seen)
+}
+
+fn copy_of_one_record(alloc: Global) -> Result<usize, AllocError> {
+    let mut forest = Forest::new(alloc, 2)?;
+    let root = forest.plant(one_record(alloc)?)?;
+    let copy = forest.view(&root).copy()?;
+    Ok(copy.resources.len())
+}
+
+#[test]
+fn a_tree_is_seen_where_it_stands(rt: HostRuntime) -> Result<(), Fail> {
+    assert_eq!(rt; seen_of_one_record(rt.alloc())?, (1, 1, 1, 1));
+    assert_eq!(rt; copy_of_one_record(rt.alloc())?, 1);
     Ok(())
 }
 

@@ -1,5 +1,5 @@
 use Rattle.std.proofs.Common.{refl, arith}
-use Rattle.share_cow.proofs.Plant.{plant_others, plant_sound, plant_tree, resource_nodes, stays, still_sound}
+use Rattle.share_cow.proofs.Plant.{plant_others, plant_sound, plant_tree, plant_unshared, resource_nodes, stays, still_sound}
 use Rattle.share_cow.proofs.forest.Forest.plant.Goals as goal
 
 pub invariant_of-self : goal.invariant_of-self
@@ -23,6 +23,13 @@ returns-in-Ok-clause-others c =
     let put = c.insert_reserved.ensures in
     rw (c.new.ensures, ← c.self.view_is)
     (plant_others _ _ c.insert_reserved.result c.in-Ok.place c.args.batch c.self.invariant.1 put.was_vacant put.updates.changed put.updates.others c.in-Ok.ensures.ok)
+
+pub returns-in-Ok-clause-unshared : goal.returns-in-Ok-clause-unshared
+returns-in-Ok-clause-unshared c =
+    let put = c.insert_reserved.ensures in
+    rw c.new.ensures
+    (plant_unshared _ (record { roots = c.insert_reserved.new.self.slots; most = c.self.inside.most; batches = c.plant_batch.new.batches; resources = c.plant_batch.new.resources; scopes = c.plant_batch.new.scopes; logs = c.plant_batch.new.logs })
+    c.insert_reserved.result c.in-Ok.place c.args.batch c.self.invariant.1 put.was_vacant put.updates.changed put.updates.others c.in-Ok.ensures.ok)
 
 pub returns-in-Ok-clause-made : goal.returns-in-Ok-clause-made
 returns-in-Ok-clause-made c =

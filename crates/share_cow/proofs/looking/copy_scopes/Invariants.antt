@@ -1,0 +1,9 @@
+use Rattle.std.proofs.Common.{◌≡◌, [], ◌∷◌, map, take}
+use Rattle.std.specs.Prelude.{filter_map}
+use Rattle.share_cow.specs.Levels.{value}
+use Rattle.share_cow.specs.Store.{as_scope, nothing, scope_levels}
+use Rattle.share_cow.proofs.looking.copy_scopes.Given as goal
+
+-- those so far are copied
+abbrev pub invariant-loop-place : goal.invariant-loop-place
+invariant-loop-place l = l.copies ≡ filter_map as_scope (map (value nothing (scope_levels l.scopes l.logs)) (take l.place-index l.places))
