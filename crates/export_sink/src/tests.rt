@@ -7,23 +7,51 @@ use graph_build::{Plan, check_conf};
 use std::alloc::{AllocError, Global};
 use std::test::Fail;
 
-const COPY: &str =
-    r#"{"receivers":{"otlpjsonfile":{}},"exporters":{"file":{"path":"out"}},"service":{"pipelines":{"logs":{"receivers":["otlpjsonfile"],"exporters":["file"]}}}}"#;
+const COPY: &str = concat!(
+    r#"{"receivers":{"otlpjsonfile":{}},"exporters":{"file":{"path":"out"}},"#,
+    r#""service":{"pipelines":{"logs":{"receivers":["otlpjsonfile"],"exporters":["#,
+    r#""file"]}}}}"#
+);
 
-const ERRING: &str =
-    r#"{"receivers":{"otlpjsonfile":{}},"processors":{"transform":{"error_mode":"ignore","log_statements":[{"context":"log","statements":["set(attributes[\"a\"], 1)","set(attributes[\"b\"], 1 / 0)"]}]}},"exporters":{"file":{"path":"out"}},"service":{"pipelines":{"logs":{"receivers":["otlpjsonfile"],"processors":["transform"],"exporters":["file"]}}}}"#;
+const ERRING: &str = concat!(
+    r#"{"receivers":{"otlpjsonfile":{}},"#,
+    r#""processors":{"transform":{"error_mode":"ignore","log_statements":["#,
+    r#"{"context":"log","statements":["set(attributes[\"a\"], 1)","set(attributes["#,
+    r#"\"b\"], 1 / 0)"]}]}},"exporters":{"file":{"path":"out"}},"#,
+    r#""service":{"pipelines":{"logs":{"receivers":["otlpjsonfile"],"processors":["#,
+    r#""transform"],"exporters":["file"]}}}}"#
+);
 
-const FAILING: &str =
-    r#"{"receivers":{"otlpjsonfile":{}},"processors":{"transform":{"log_statements":[{"context":"log","statements":["set(attributes[\"b\"], 1 / 0)"]}]}},"exporters":{"file":{"path":"a"},"file/b":{"path":"b"}},"service":{"pipelines":{"logs":{"receivers":["otlpjsonfile"],"processors":["transform"],"exporters":["file"]},"logs/b":{"receivers":["otlpjsonfile"],"exporters":["file/b"]}}}}"#;
+const FAILING: &str = concat!(
+    r#"{"receivers":{"otlpjsonfile":{}},"processors":{"transform":{"log_statements":["#,
+    r#"{"context":"log","statements":["set(attributes[\"b\"], 1 / 0)"]}]}},"#,
+    r#""exporters":{"file":{"path":"a"},"file/b":{"path":"b"}},"#,
+    r#""service":{"pipelines":{"logs":{"receivers":["otlpjsonfile"],"processors":["#,
+    r#""transform"],"exporters":["file"]},"logs/b":{"receivers":["otlpjsonfile"],"#,
+    r#""exporters":["file/b"]}}}}"#
+);
 
-const ROUTING: &str =
-    r#"{"receivers":{"otlpjsonfile":{}},"connectors":{"routing":{"table":[{"context":"log","condition":"IsMatch(body, \"a\")","pipelines":["logs/p"],"action":"copy"},{"context":"log","condition":"IsMatch(body, \"b\")","pipelines":["logs/q"]}]}},"exporters":{"file/p":{"path":"p"},"file/q":{"path":"q"}},"service":{"pipelines":{"logs/in":{"receivers":["otlpjsonfile"],"exporters":["routing"]},"logs/p":{"receivers":["routing"],"exporters":["file/p"]},"logs/q":{"receivers":["routing"],"exporters":["file/q"]}}}}"#;
+const ROUTING: &str = concat!(
+    r#"{"receivers":{"otlpjsonfile":{}},"connectors":{"routing":{"table":["#,
+    r#"{"context":"log","condition":"IsMatch(body, \"a\")","pipelines":["logs/p"],"#,
+    r#""action":"copy"},{"context":"log","condition":"IsMatch(body, \"b\")","#,
+    r#""pipelines":["logs/q"]}]}},"exporters":{"file/p":{"path":"p"},"#,
+    r#""file/q":{"path":"q"}},"service":{"pipelines":{"logs/in":{"receivers":["#,
+    r#""otlpjsonfile"],"exporters":["routing"]},"logs/p":{"receivers":["routing"],"#,
+    r#""exporters":["file/p"]},"logs/q":{"receivers":["routing"],"exporters":["#,
+    r#""file/q"]}}}}"#
+);
 
-const LINE: &str =
-    r#"{"resourceLogs":[{"resource":{},"scopeLogs":[{"scope":{},"logRecords":[{"body":{"stringValue":"hi"}}]}]}]}"#;
+const LINE: &str = concat!(
+    r#"{"resourceLogs":[{"resource":{},"scopeLogs":[{"scope":{},"logRecords":["#,
+    r#"{"body":{"stringValue":"hi"}}]}]}]}"#
+);
 
-const LETTERS: &str =
-    r#"{"resourceLogs":[{"resource":{},"scopeLogs":[{"scope":{},"logRecords":[{"body":{"stringValue":"ab"}},{"body":{"stringValue":"a"}},{"body":{"stringValue":"b"}},{"body":{"stringValue":"c"}}]}]}]}"#;
+const LETTERS: &str = concat!(
+    r#"{"resourceLogs":[{"resource":{},"scopeLogs":[{"scope":{},"logRecords":["#,
+    r#"{"body":{"stringValue":"ab"}},{"body":{"stringValue":"a"}},"#,
+    r#"{"body":{"stringValue":"b"}},{"body":{"stringValue":"c"}}]}]}]}"#
+);
 
 fn planned(alloc: Global, conf: &str) -> Result<Plan, Fail> {
     if MAX_CONF < conf.len() {
@@ -68,12 +96,17 @@ fn told_twice(alloc: Global, conf: &str, line: &str) -> Result<Vec<u8>, Fail> {
 #[test]
 fn a_pipeline_without_processors_copies(rt: HostRuntime) -> Result<(), Fail> {
     let told = told(rt.alloc(), COPY, LINE)?;
-    let want =
-        r#"{"resourceLogs":[{"resource":{},"scopeLogs":[{"scope":{},"logRecords":[{"body":{"stringValue":"hi"}}]}]}]}
-payloads 1 accepted 1 refused 0
-leg 0 logs in 1 out 1 filtered 0 unrouted 0 failed 0 errors 0
-exporter file lines 1 bytes 107
-"#;
+    let want = concat!(
+        r#"{"resourceLogs":[{"resource":{},"scopeLogs":[{"scope":{},"logRecords":["#,
+        r#"{"body":{"stringValue":"hi"}}]}]}]}"#,
+        "\n",
+        r#"payloads 1 accepted 1 refused 0"#,
+        "\n",
+        r#"leg 0 logs in 1 out 1 filtered 0 unrouted 0 failed 0 errors 0"#,
+        "\n",
+        r#"exporter file lines 1 bytes 107"#,
+        "\n"
+    );
     assert!(rt; told.as_slice() == want.as_bytes());
     Ok(())
 }
@@ -81,13 +114,20 @@ exporter file lines 1 bytes 107
 #[test]
 fn errors_are_noted_and_the_work_goes_on(rt: HostRuntime) -> Result<(), Fail> {
     let told = told(rt.alloc(), ERRING, LINE)?;
-    let want =
-        r#"{"resourceLogs":[{"resource":{},"scopeLogs":[{"scope":{},"logRecords":[{"body":{"stringValue":"hi"},"attributes":[{"key":"a","value":{"intValue":"1"}}]}]}]}]}
-payload 1 leg 0 transform group 0 statement 1 at 0/0/0 DivideByZero
-payloads 1 accepted 1 refused 0
-leg 0 logs in 1 out 1 filtered 0 unrouted 0 failed 0 errors 1
-exporter file lines 1 bytes 159
-"#;
+    let want = concat!(
+        r#"{"resourceLogs":[{"resource":{},"scopeLogs":[{"scope":{},"logRecords":["#,
+        r#"{"body":{"stringValue":"hi"},"attributes":[{"key":"a","#,
+        r#""value":{"intValue":"1"}}]}]}]}]}"#,
+        "\n",
+        r#"payload 1 leg 0 transform group 0 statement 1 at 0/0/0 DivideByZero"#,
+        "\n",
+        r#"payloads 1 accepted 1 refused 0"#,
+        "\n",
+        r#"leg 0 logs in 1 out 1 filtered 0 unrouted 0 failed 0 errors 1"#,
+        "\n",
+        r#"exporter file lines 1 bytes 159"#,
+        "\n"
+    );
     assert!(rt; told.as_slice() == want.as_bytes());
     Ok(())
 }
@@ -95,15 +135,23 @@ exporter file lines 1 bytes 159
 #[test]
 fn a_failed_leg_leaves_its_sibling(rt: HostRuntime) -> Result<(), Fail> {
     let told = told(rt.alloc(), FAILING, LINE)?;
-    let want =
-        r#"{"resourceLogs":[{"resource":{},"scopeLogs":[{"scope":{},"logRecords":[{"body":{"stringValue":"hi"}}]}]}]}
-payload 1 leg 0 failed transform group 0 statement 0 at 0/0/0 DivideByZero
-payloads 1 accepted 1 refused 0
-leg 0 logs in 1 out 0 filtered 0 unrouted 0 failed 1 errors 0
-leg 1 logs/b in 1 out 1 filtered 0 unrouted 0 failed 0 errors 0
-exporter file lines 0 bytes 0
-exporter file/b lines 1 bytes 107
-"#;
+    let want = concat!(
+        r#"{"resourceLogs":[{"resource":{},"scopeLogs":[{"scope":{},"logRecords":["#,
+        r#"{"body":{"stringValue":"hi"}}]}]}]}"#,
+        "\n",
+        r#"payload 1 leg 0 failed transform group 0 statement 0 at 0/0/0 DivideByZero"#,
+        "\n",
+        r#"payloads 1 accepted 1 refused 0"#,
+        "\n",
+        r#"leg 0 logs in 1 out 0 filtered 0 unrouted 0 failed 1 errors 0"#,
+        "\n",
+        r#"leg 1 logs/b in 1 out 1 filtered 0 unrouted 0 failed 0 errors 0"#,
+        "\n",
+        r#"exporter file lines 0 bytes 0"#,
+        "\n",
+        r#"exporter file/b lines 1 bytes 107"#,
+        "\n"
+    );
     assert!(rt; told.as_slice() == want.as_bytes());
     Ok(())
 }
@@ -111,16 +159,26 @@ exporter file/b lines 1 bytes 107
 #[test]
 fn rows_copy_and_move(rt: HostRuntime) -> Result<(), Fail> {
     let told = told(rt.alloc(), ROUTING, LETTERS)?;
-    let want =
-        r#"{"resourceLogs":[{"resource":{},"scopeLogs":[{"scope":{},"logRecords":[{"body":{"stringValue":"ab"}},{"body":{"stringValue":"a"}}]}]}]}
-{"resourceLogs":[{"resource":{},"scopeLogs":[{"scope":{},"logRecords":[{"body":{"stringValue":"ab"}},{"body":{"stringValue":"b"}}]}]}]}
-payloads 1 accepted 1 refused 0
-leg 0 logs/in in 4 out 4 filtered 0 unrouted 2 failed 0 errors 0
-leg 1 logs/p in 2 out 2 filtered 0 unrouted 0 failed 0 errors 0
-leg 2 logs/q in 2 out 2 filtered 0 unrouted 0 failed 0 errors 0
-exporter file/p lines 1 bytes 136
-exporter file/q lines 1 bytes 136
-"#;
+    let want = concat!(
+        r#"{"resourceLogs":[{"resource":{},"scopeLogs":[{"scope":{},"logRecords":["#,
+        r#"{"body":{"stringValue":"ab"}},{"body":{"stringValue":"a"}}]}]}]}"#,
+        "\n",
+        r#"{"resourceLogs":[{"resource":{},"scopeLogs":[{"scope":{},"logRecords":["#,
+        r#"{"body":{"stringValue":"ab"}},{"body":{"stringValue":"b"}}]}]}]}"#,
+        "\n",
+        r#"payloads 1 accepted 1 refused 0"#,
+        "\n",
+        r#"leg 0 logs/in in 4 out 4 filtered 0 unrouted 2 failed 0 errors 0"#,
+        "\n",
+        r#"leg 1 logs/p in 2 out 2 filtered 0 unrouted 0 failed 0 errors 0"#,
+        "\n",
+        r#"leg 2 logs/q in 2 out 2 filtered 0 unrouted 0 failed 0 errors 0"#,
+        "\n",
+        r#"exporter file/p lines 1 bytes 136"#,
+        "\n",
+        r#"exporter file/q lines 1 bytes 136"#,
+        "\n"
+    );
     assert!(rt; told.as_slice() == want.as_bytes());
     Ok(())
 }

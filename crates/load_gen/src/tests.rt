@@ -4,8 +4,11 @@ use crate::make_payloads;
 use std::alloc::Global;
 use std::test::Fail;
 
-const FRONT: &str =
-    r#"{"resourceLogs":[{"resource":{"attributes":[{"key":"service.name","value":{"stringValue":"svc-3"}}]},"scopeLogs":[{"scope":{"name":"demo"},"logRecords":[{"timeUnixNano":"1700000001000000000","severityNumber":"#;
+const FRONT: &str = concat!(
+    r#"{"resourceLogs":[{"resource":{"attributes":[{"key":"service.name","#,
+    r#""value":{"stringValue":"svc-3"}}]},"scopeLogs":[{"scope":{"name":"demo"},"#,
+    r#""logRecords":[{"timeUnixNano":"1700000001000000000","severityNumber":"#
+);
 
 #[test]
 fn the_first_payload_of_seed_0_is_of_service_3(rt: HostRuntime) -> Result<(), Fail> {

@@ -3,12 +3,13 @@ use Rattle.std.proofs.Common.{◌≡◌, ℕ, zero, suc, ◌+◌, ◌<◌, ◌�
 use Rattle.std.proofs.lemmas.Option.{slice_get_within, slice_get-get_or}
 use Rattle.graph_build.specs.declared.leg.Leg.{Leg}
 use Rattle.leg_model.specs.Course.{Outcome}
+use Rattle.leg_model.specs.Facts.{ParentsFirst}
 use Rattle.leg_model.specs.Exports.{logs}
 use Rattle.graph_build.specs.Conf.{Conf}
 use Rattle.leg_model.specs.Legs.{below, gets, handed, leaves, leg_outcome, parent_of}
 use Rattle.pdata_tree.specs.Places.{within}
 use Rattle.pdata_tree.specs.declared.batch.Batch.{Batch}
-use Rattle.plain_legs.specs.Views.{entry_below, entry_by, ParentsFirst}
+use Rattle.plain_legs.specs.Views.{entry_below, entry_by}
 
 -- the first legs, so many, left this
 abbrev pub Left : Conf → Batch → ℕ → List (Outcome Batch) → Type 0

@@ -6,13 +6,14 @@ use Rattle.std.proofs.lemmas.List.{take_rest}
 use Rattle.graph_build.specs.Conf.{Conf}
 use Rattle.graph_build.specs.declared.leg.Leg.{Leg}
 use Rattle.leg_model.specs.Course.{Outcome, outcome}
+use Rattle.leg_model.specs.Facts.{ParentsFirst}
 use Rattle.leg_model.specs.Exports.{logs}
 use Rattle.leg_model.specs.Legs.{gets, leg_outcome}
 use Rattle.leg_model.specs.Parts.{parts_of}
 use Rattle.pdata_tree.specs.Grouping.{grouped}
 use Rattle.pdata_tree.specs.Operations.{log_trees}
 use Rattle.pdata_tree.specs.declared.batch.Batch.{Batch}
-use Rattle.plain_legs.specs.Views.{entry_by, outcome_of, parts_in, HaveParts, ParentsFirst}
+use Rattle.plain_legs.specs.Views.{entry_by, outcome_of, parts_in, HaveParts}
 use Rattle.plain_legs.specs.declared.outcome.LegOutcome.{LegOutcome}
 use Rattle.plain_legs.specs.declared.parts.PipelineParts.{PipelineParts}
 use Rattle.plain_legs.proofs.Entries.{entry_is, Left}

@@ -1,4 +1,5 @@
 -- Each leg stands behind the one above it.
+use Rattle.leg_model.specs.Facts.{ParentsFirst}
 use Rattle.std.proofs.Common.{◌≡◌, ℕ, zero, suc, ◌+◌, ◌<◌, ◌≤◌, List, [], ◌∷◌, ◌++◌, length, Option, Some, None, Result, Ok, Err, Bool, true, false, if◌then◌else◌, slice_get, refl, sym, ap, ◌∙◌, subst, arith}
 use Rattle.conf_draft.specs.declared.draft.Draft.{Draft}
 use Rattle.conf_draft.specs.declared.draft.Pipeline.{Pipeline}
@@ -16,7 +17,6 @@ use Rattle.graph_build.specs.Conf.{HasLegs, conf_of, with_legs}
 use Rattle.graph_build.specs.Cycles.{cycles_fault}
 use Rattle.graph_build.specs.Exits.{exits_of}
 use Rattle.graph_build.specs.Legs.{all_legs, child_leg, children, is_root, legs_below, legs_from, legs_of_root, max_legs, root_leg}
-use Rattle.plain_legs.specs.Views.{ParentsFirst}
 
 -- the leg above has a smaller number
 abbrev IsBelow : ℕ → Leg → Type 0

@@ -1,8 +1,9 @@
 -- The configuration of a plan's legs.
+use Rattle.leg_model.specs.Facts.{ParentsFirst}
 use Rattle.std.specs.Prelude.{◌≡◌, Result, Ok}
 use Rattle.conf_json.specs.declared.fault.ConfFault.{ConfFault}
 use Rattle.graph_build.specs.Conf.{Conf}
-use Rattle.plain_legs.specs.Views.{meant_by, HaveParts, ParentsFirst}
+use Rattle.plain_legs.specs.Views.{meant_by, HaveParts}
 use Rattle.plain_legs.specs.declared.plan.LegPlan.{LegPlan}
 
 -- what is spelled, and its legs

@@ -83,11 +83,6 @@ abbrev pub HaveParts : Meant → List Leg → List PipelineParts → Type 0
 HaveParts meant legs parts =
     map parts_in parts ≡ map (λ leg. parts_of meant leg.pipeline) legs
 
--- each leg stands behind the one above it
-abbrev pub ParentsFirst : List Leg → Type 0
-ParentsFirst legs = (number parent : ℕ) (leg : Leg)
-    → slice_get legs number ≡ Some leg → leg.parent ≡ Some parent → parent < number
-
 -- what a leg gets of a payload's tree, where the legs before it left this
 abbrev pub entry_below : Leg → Option (Outcome Batch) → Batch → Batch
 entry_below leg None tree = tree

@@ -6,8 +6,11 @@ use std::test::Fail;
 use tele_io::DiskOp;
 
 /// One pipeline from the file receiver to one file.
-const PLAIN: &str =
-    r#"{"receivers":{"otlpjsonfile":{}},"exporters":{"file":{"path":"o"}},"service":{"pipelines":{"logs":{"receivers":["otlpjsonfile"],"exporters":["file"]}}}}"#;
+const PLAIN: &str = concat!(
+    r#"{"receivers":{"otlpjsonfile":{}},"exporters":{"file":{"path":"o"}},"#,
+    r#""service":{"pipelines":{"logs":{"receivers":["otlpjsonfile"],"exporters":["#,
+    r#""file"]}}}}"#
+);
 
 #[test]
 fn legs_or_the_first_fault_are_told(rt: HostRuntime) -> Result<(), Fail> {

@@ -141,18 +141,30 @@ fn a_refused_payload_leaves_the_others(rt: HostRuntime) -> Result<(), Fail> {
 fn statements_rewrite_records(rt: HostRuntime) -> Result<(), Fail> {
     let rows = [
         (
-            r#""set(attributes[\"x\"], attributes[\"none\"])","set(attributes[\"y\"], \"1\") where attributes[\"none\"] == nil""#,
+            concat!(
+                r#""set(attributes[\"x\"], attributes[\"none\"])","set(attributes[\"y\"], \"1\") "#,
+                r#"where attributes[\"none\"] == nil""#
+            ),
             r#"{}"#,
             r#"{"attributes":[{"key":"y","value":{"stringValue":"1"}}]}"#,
         ),
         (
             r#""replace_all_patterns(attributes, \"key\", \"^k[0-9]$\", \"k\")""#,
-            r#"{"attributes":[{"key":"k1","value":{"stringValue":"a"}},{"key":"z","value":{"stringValue":"b"}},{"key":"k2","value":{"stringValue":"c"}}]}"#,
-            r#"{"attributes":[{"key":"k","value":{"stringValue":"c"}},{"key":"z","value":{"stringValue":"b"}}]}"#,
+            concat!(
+                r#"{"attributes":[{"key":"k1","value":{"stringValue":"a"}},{"key":"z","#,
+                r#""value":{"stringValue":"b"}},{"key":"k2","value":{"stringValue":"c"}}]}"#
+            ),
+            concat!(
+                r#"{"attributes":[{"key":"k","value":{"stringValue":"c"}},{"key":"z","#,
+                r#""value":{"stringValue":"b"}}]}"#
+            ),
         ),
         (
             r##""delete_matching_keys(attributes, \"^pass\")","replace_pattern(body, \"[0-9]+\", \"#\")""##,
-            r#"{"body":{"stringValue":"user 42 in"},"attributes":[{"key":"password","value":{"stringValue":"x"}}]}"#,
+            concat!(
+                r#"{"body":{"stringValue":"user 42 in"},"attributes":[{"key":"password","#,
+                r#""value":{"stringValue":"x"}}]}"#
+            ),
             r##"{"body":{"stringValue":"user # in"}}"##,
         ),
     ];
@@ -177,9 +189,9 @@ fn error_modes_keep_or_drop(rt: HostRuntime) -> Result<(), Fail> {
     );
     let error = "transform group 0 statement 1 at 0/0/0 DivideByZero";
     let ignored = format!(in rt.alloc();
-        "Done{kept} errors 1\nexporter file lines 1 bytes 167\n|payload 1 leg 0 {error}\n"
+        "Done{kept} errors 1\nexporter file lines 1 bytes 168\n|payload 1 leg 0 {error}\n"
     )?;
-    let silent = format!(in rt.alloc(); "Done{kept} errors 0\nexporter file lines 1 bytes 167\n|")?;
+    let silent = format!(in rt.alloc(); "Done{kept} errors 0\nexporter file lines 1 bytes 168\n|")?;
     let counts = "leg 0 logs in 1 out 0 filtered 0 unrouted 0 failed 1 errors 0";
     let failed = format!(in rt.alloc();
         "Done|a |payloads 1 accepted 1 refused 0\n{counts}\nexporter file lines 0 bytes 0\n|payload 1 leg 0 failed {error}\n"
@@ -202,7 +214,10 @@ const APART: &str = concat!(
     r#""processors":{"transform":{"log_statements":[{"context":"log","#,
     r#""statements":["set(attributes[\"x\"], \"1\")"]}]}},"#,
     r#""exporters":{"file/a":{"path":"a"},"file/b":{"path":"b"}},"service":{"pipelines":{"#,
-    r#""logs/a":{"receivers":["otlpjsonfile"],"processors":["transform"],"exporters":["file/a"]},"#,
+    concat!(
+        r#""logs/a":{"receivers":["otlpjsonfile"],"processors":["transform"],"exporters":["#,
+        r#""file/a"]},"#
+    ),
     r#""logs/b":{"receivers":["otlpjsonfile"],"exporters":["file/b"]}}}}"#
 );
 

@@ -70,8 +70,11 @@ const ROW: &str = r#"{"condition":"attributes[\"a\"] == 1","pipelines":["logs/q"
 
 #[test]
 fn statements_are_planned(rt: HostRuntime) -> Result<(), Fail> {
-    let processors =
-        r#""filter":{"logs":{"log_record":["flags == 1"]}},"transform":{"log_statements":[{"context":"scope","conditions":["name == nil"],"statements":["set(version, \"x\")"]}]}"#;
+    let processors = concat!(
+        r#""filter":{"logs":{"log_record":["flags == 1"]}},"transform":{"log_statements":["#,
+        r#"{"context":"scope","conditions":["name == nil"],"statements":["set(version, "#,
+        r#"\"x\")"]}]}"#
+    );
     let note = read_parts(rt.alloc(), processors, ROW)?;
     assert_eq!(rt; note.as_str(), "1 connectors, 2 processors, 1 exporters");
     Ok(())
@@ -80,15 +83,19 @@ fn statements_are_planned(rt: HostRuntime) -> Result<(), Fail> {
 #[test]
 fn the_first_fault_of_a_statement_is_told(rt: HostRuntime) -> Result<(), Fail> {
     let alloc = rt.alloc();
-    let third =
-        r#""transform":{"log_statements":[{"context":"log","statements":["set(body, 1)","set(body, 1)","drop(body)"]}]}"#;
+    let third = concat!(
+        r#""transform":{"log_statements":[{"context":"log","statements":["set(body, 1)","#,
+        r#""set(body, 1)","drop(body)"]}]}"#
+    );
     let note = read_parts(alloc, third, ROW)?;
     assert_eq!(rt;
         note.as_str(),
         "BadStatement at $/processors/transform/log_statements/0/statements/2 UnknownFunction at 0"
     );
-    let both =
-        r#""transform":{"log_statements":[{"context":"log","conditions":["body ="],"statements":["drop(body)"]}]}"#;
+    let both = concat!(
+        r#""transform":{"log_statements":[{"context":"log","conditions":["body ="],"#,
+        r#""statements":["drop(body)"]}]}"#
+    );
     let note = read_parts(alloc, both, ROW)?;
     assert_eq!(rt;
         note.as_str(),
