@@ -59,3 +59,90 @@ fn configurations_are_read_up_to_the_limit(rt: HostRuntime) -> Result<(), Fail> 
     }
     Ok(())
 }
+
+/// What stands before the exporters: one receiver, and a statement that calls no function.
+const ERRING: &str = concat!(
+    r#"{"receivers":{"otlpjsonfile":{}},"processors":{"transform":{"log_statements":"#,
+    r#"[{"context":"log","statements":["drop(body)"]}]}},"#
+);
+
+/// Two exporters with one path, and a pipeline.
+const SAME: &str = concat!(
+    r#""exporters":{"file":{"path":"o"},"file/b":{"path":"o"}},"#,
+    r#""service":{"pipelines":{"logs":{"receivers":["otlpjsonfile"],"exporters":["file"]}}}}"#
+);
+
+/// Two pipelines that lead to each other, and an exporter that writes to the input.
+const CYCLE: &str = concat!(
+    r#""connectors":{"routing/x":{"default_pipelines":["logs/q"],"table":[]},"#,
+    r#""routing/y":{"default_pipelines":["logs/p"],"table":[]}},"#,
+    r#""exporters":{"file":{"path":"in"}},"service":{"pipelines":{"#,
+    r#""logs/p":{"receivers":["otlpjsonfile","routing/y"],"exporters":["routing/x"]},"#,
+    r#""logs/q":{"receivers":["routing/x"],"exporters":["routing/y"]}}}}"#
+);
+
+/// What is told of a configuration of two parts.
+fn checked(alloc: Global, front: &str, back: &str) -> Result<Vec<u8>, AllocError> {
+    let conf = format!(in alloc; "{front}{back}")?;
+    run(alloc, "check|in", conf.as_bytes(), Failing::Nothing)
+}
+
+#[test]
+fn faults_come_in_the_order_of_phases(rt: HostRuntime) -> Result<(), Fail> {
+    let one = r#"{"receivers":{"otlpjsonfile":{}},"#;
+    let unknown_name =
+        r#""service":{"pipelines":{"logs":{"receivers":["none"],"exporters":["file"]}}}}"#;
+    let two_members =
+        r#"{"receivers":{"otlpjsonfile":{}},"exporters":{"file":{"path":"o","x":1}},"#;
+    let two_paths = concat!(
+        r#"{"receivers":{"otlpjsonfile":{}},"#,
+        r#""exporters":{"file":{"path":"o"},"file/b":{"path":"o"}},"#
+    );
+    let statement = "$/processors/transform/log_statements/0/statements/0 UnknownFunction at 0";
+    let statement = format!(in rt.alloc(); "conf 16 BadStatement at {statement}")?;
+    let rows = [
+        (r#"{"receivers":[]"#, ",", "conf 1 BadJson at $"),
+        (
+            two_members,
+            unknown_name,
+            "conf 3 UnknownKey at $/exporters/file/x",
+        ),
+        (
+            two_paths,
+            unknown_name,
+            "conf 6 UnknownComponent at $/service/pipelines/logs/receivers/0",
+        ),
+        (ERRING, SAME, "conf 15 SamePath at $/exporters/file~1b/path"),
+        (ERRING, CYCLE, statement.as_str()),
+        (one, CYCLE, "conf 17 CycleOf at $/service/pipelines/logs~1p"),
+    ];
+    for (front, back, want) in rows {
+        let told = checked(rt.alloc(), front, back)?;
+        let want = format!(in rt.alloc(); "BadConf|absent||{want}\n")?;
+        assert!(rt; told.as_slice() == want.as_bytes(), "of {want}");
+    }
+    Ok(())
+}
+
+#[test]
+fn the_last_of_repeated_members_counts(rt: HostRuntime) -> Result<(), Fail> {
+    let back = concat!(
+        r#","exporters":{"file":{"path":"o"}},"#,
+        r#""service":{"pipelines":{"logs":{"receivers":["otlpjsonfile"],"exporters":["file"]}}}}"#
+    );
+    let rows = [
+        (
+            r#"{"receivers":{"otlpjsonfile":{}},"receivers":{}"#,
+            "BadConf|absent||conf 4 MissingKey at $/receivers/otlpjsonfile\n",
+        ),
+        (
+            r#"{"receivers":[],"receivers":{"otlpjsonfile":{}}"#,
+            "Done|absent|ok legs 1\nleg 0 logs root reads\n|",
+        ),
+    ];
+    for (front, want) in rows {
+        let told = checked(rt.alloc(), front, back)?;
+        assert!(rt; told.as_slice() == want.as_bytes(), "of {front}");
+    }
+    Ok(())
+}
