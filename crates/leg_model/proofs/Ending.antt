@@ -222,7 +222,7 @@ module _ {T : Type 0} (ops : TreeOps T PathTo) (group : List (List ℕ) → T �
   zero-add : (m : ℕ) → 0 + m ≡ m
   zero-add m = omega arith
 
-  steps-add : (n m : ℕ) (s : LegState T)
+  pub steps-add : (n m : ℕ) (s : LegState T)
       → leg_steps ops group parts (n + m) s ≡ leg_steps ops group parts m (leg_steps ops group parts n s)
   steps-add zero m s = ap (λ k. leg_steps ops group parts k s) (zero-add m)
   steps-add (suc n) m s =
@@ -248,7 +248,7 @@ step_leaves conf leg s = rest-step logs.ops logs.group (parts_on conf leg) s
 
 -- The number of steps of a leg.
 
-over_or_not : {T : Type 0} (s : LegState T) → is_over s ≡ true → (o : Outcome T) × (s ≡ over o)
+pub over_or_not : {T : Type 0} (s : LegState T) → is_over s ≡ true → (o : Outcome T) × (s ≡ over o)
 over_or_not (over o) is = (o, refl)
 over_or_not (entering tree) is = absurd cc
 over_or_not (transforming s run c at) is = absurd cc
@@ -258,7 +258,7 @@ over_or_not (routing s c at) is = absurd cc
 over_or_not (ending taken c) is = absurd cc
 
 -- the first of some numbers that has a truth
-abbrev IsFirst : (ℕ → Bool) → ℕ → Type 0
+abbrev pub IsFirst : (ℕ → Bool) → ℕ → Type 0
 IsFirst f n = (f n ≡ true) × ((k : ℕ) → k < n → f k ≡ false)
 
 first_on : (t : Bool) (f : ℕ → Bool) → f 0 ≡ t → ((n : ℕ) × IsFirst (λ k. f (suc k)) n) → (n : ℕ) × IsFirst f n
@@ -269,7 +269,7 @@ first_on false f is later = (suc later.0, (later.1.0, before))
     before zero less = is
     before (suc k) less = later.1.1 k (omega (arith, less))
 
-first_of_all : (n : ℕ) (f : ℕ → Bool) → f n ≡ true → (m : ℕ) × IsFirst f m
+pub first_of_all : (n : ℕ) (f : ℕ → Bool) → f n ≡ true → (m : ℕ) × IsFirst f m
 first_of_all zero f is = (0, (is, λ k less. absurd (omega (arith, less))))
 first_of_all (suc n) f is = first_on (f 0) f refl (first_of_all n (λ k. f (suc k)) is)
 

@@ -17,3 +17,9 @@ mod Exporting
 -- Steps of a leg.
 mod Stepping
 mod Ending
+-- Turns.
+mod Lengths
+mod Turning
+mod Filtering
+mod Counting
+mod Stating

@@ -12,3 +12,5 @@ pub mod Sums
 pub mod Facts
 -- A leg step by step.
 pub mod Steps
+-- How many steps a turn does.
+pub mod Bursts

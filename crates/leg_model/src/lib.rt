@@ -5,6 +5,7 @@ mod export_laws;
 mod laws;
 mod leg_laws;
 mod step_laws;
+mod turn_laws;
 
 use conf_json::Note;
 pub use export_laws::{
@@ -18,6 +19,11 @@ pub use leg_laws::{
     first_errors_are_noted, legs_get_what_is_handed, nothing_leaves_nothing,
 };
 pub use step_laws::steps_come_to_what_is_meant;
+pub use turn_laws::{
+    bursts_end_with_their_part, bursts_fit_into_a_leg, bursts_within_a_part_end_all_their_targets,
+    filters_take_a_step_for_each_record, legs_below_failed_ones_have_one_step, legs_have_a_length,
+    statements_take_a_step_for_each_target, steps_follow_steps,
+};
 
 #[cfg(test)]
 mod tests;
