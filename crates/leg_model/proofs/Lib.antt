@@ -17,9 +17,10 @@ mod Exporting
 -- Steps of a leg.
 mod Stepping
 mod Ending
--- Turns.
+-- Turns and histories.
 mod Lengths
 mod Turning
 mod Filtering
 mod Counting
 mod Stating
+mod Replaying

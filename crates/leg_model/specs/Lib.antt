@@ -12,5 +12,6 @@ pub mod Sums
 pub mod Facts
 -- A leg step by step.
 pub mod Steps
--- How many steps a turn does.
+-- How many steps a turn does, and histories of turns.
 pub mod Bursts
+pub mod Histories

@@ -2,6 +2,7 @@
 #![tactic(auto)]
 
 mod export_laws;
+mod history_laws;
 mod laws;
 mod leg_laws;
 mod step_laws;
@@ -11,6 +12,11 @@ use conf_json::Note;
 pub use export_laws::{
     exporters_get_by_their_pipelines, lines_are_of_trees_with_resources,
     payloads_are_accepted_or_refused,
+};
+pub use history_laws::{
+    events_count_for_their_leg, events_may_change_places, histories_begin_empty,
+    histories_grow_by_legal_events, legs_end_with_what_is_meant, legs_may_have_their_turn,
+    legs_wait_for_the_leg_above,
 };
 use item_list::ItemList;
 pub use laws::{exports_grow, notes_grow, totals_add_up};
@@ -34,6 +40,15 @@ pub struct LegNote {
     /// Which component erred: the pipeline's processors come first, then its connectors, from 0.
     pub component: usize,
     pub note: Note,
+}
+
+/// What a turn did.
+#[derive(Clone, Copy, Debug, PartialEq, Eq)]
+pub struct Event {
+    /// The number of the leg that it was on.
+    pub leg: u32,
+    /// How many of the leg's steps it did.
+    pub steps: u64,
 }
 
 /// What is counted on a leg. The number taken is that of those out, filtered and failed together.
