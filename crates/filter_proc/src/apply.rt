@@ -15,12 +15,13 @@ use std::alloc::Global;
 use tree_parts::keep_records;
 
 /// Drops the log records on which a condition holds, and then scopes and resources without log
-/// records. The tree of a run that fails is given up.
+/// records, with the matchers that are kept. The tree of a run that fails is given up.
 #[tactic(auto, using(proc_targets::proofs::Stops::stops))]
-pub fn apply_plain(
+pub fn apply_plain<'p>(
     alloc: Global,
-    settings: &FilterSettings,
+    settings: &'p FilterSettings,
     tree: Batch,
+    matchers: &mut KeptMatchers<'p>,
     book: &mut NoteBook,
 ) -> Result<Batch, PlainStop>
     ensures value { Ends book.new result (filtered log_trees settings.now tree book.old) }
@@ -29,17 +30,25 @@ pub fn apply_plain(
 {
     let mut tree = tree;
     let places = or_stop(list_targets(alloc, &tree, Context::Log))?;
-    let flags = judge_records(alloc, settings, &mut tree, places.as_slice(), book)?;
+    let flags = judge_records(
+        alloc,
+        settings,
+        &mut tree,
+        places.as_slice(),
+        matchers,
+        book,
+    )?;
     or_stop(keep_records(alloc, tree, flags.as_slice()))
 }
 
 // Whether each of the log records stays.
-#[tactic(auto, using(crate::proofs::Flags::flags_turn, proc_targets::proofs::Stops::stops))]
-fn judge_records(
+#[tactic(auto, using(proc_targets::proofs::Flags::flags_turn, proc_targets::proofs::Stops::stops))]
+fn judge_records<'p>(
     alloc: Global,
-    settings: &FilterSettings,
+    settings: &'p FilterSettings,
     tree: &mut Batch,
     places: &[Place],
+    matchers: &mut KeptMatchers<'p>,
     book: &mut NoteBook,
 ) -> Result<ItemList<bool>, PlainStop>
     ensures value { Ends book.new result
@@ -48,10 +57,9 @@ fn judge_records(
     ensures stays { Stays settings.now.error_mode book.old book.new }
     ensures failed { FailsUnder settings.now.error_mode result }
 {
-    let mut matchers = KeptMatchers::new(alloc);
     let mut flags = or_stop(ItemList::with_capacity(alloc, places.len()))?;
     for place in places {
-        let goes = is_dropped(alloc, settings, tree, *place, &mut matchers, book)?;
+        let goes = is_dropped(alloc, settings, tree, *place, matchers, book)?;
         or_stop(flags.push(!goes))?;
     }
     Ok(flags)

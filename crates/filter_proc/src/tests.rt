@@ -4,6 +4,7 @@ use crate::apply_plain;
 use conf_json::{ErrorMode, FilterSettings, Note, NoteBook, PlainStop};
 use func_text::RegexMaker;
 use item_list::ItemList;
+use ottl_eval::KeptMatchers;
 use ottl_lex::MAX_TEXT;
 use ottl_parse::{Condition, parse_condition};
 use ottl_plan::{PlannedCondition, plan_condition};
@@ -147,7 +148,9 @@ fn run(
         log_record,
     };
     let mut book = NoteBook::new();
-    let end = apply_plain(alloc, &settings, tree(alloc, first, second)?, &mut book);
+    let mut matchers = KeptMatchers::new(alloc);
+    let tree = tree(alloc, first, second)?;
+    let end = apply_plain(alloc, &settings, tree, &mut matchers, &mut book);
     let mut text = end_text(alloc, end)?;
     text.push_str("; ")?;
     text.push_str(book_text(alloc, &book)?.as_str())?;

@@ -32,7 +32,8 @@ fn find_connector<'a>(connectors: &'a [Connector], name: &str) -> Option<&'a Con
     None
 }
 
-pub(crate) fn find_pipeline<'a>(pipelines: &'a [Pipeline], name: &str) -> Option<&'a Pipeline>
+/// The pipeline with that name.
+pub fn find_pipeline<'a>(pipelines: &'a [Pipeline], name: &str) -> Option<&'a Pipeline>
     ensures { option_map (λ p. p.now) result ≡ spec.pipeline_named name.now pipelines.now }
 {
     for pipeline in pipelines {

@@ -141,7 +141,8 @@ fn add_children(
     Ok(())
 }
 
-fn is_among(name: &str, names: &[Text]) -> bool
+/// Whether a name is one of these.
+pub fn is_among(name: &str, names: &[Text]) -> bool
     ensures { result ≡ references.is_among name.now names.now }
 {
     for other in names {

@@ -85,7 +85,7 @@ pub later : {X : Type 0} (a b : Account) (r : Result (X × Account) Note) → Gr
 later a b (Ok t) here more = grows-on a b t.1 here more
 later a b (Err note) here more = tt
 
-grows-more : {X Y : Type 0} (a : Account) (r : Result (X × Account) Note) (go : X × Account → Result (Y × Account) Note)
+pub grows-more : {X Y : Type 0} (a : Account) (r : Result (X × Account) Note) (go : X × Account → Result (Y × Account) Note)
     → GrowsIn a r → ((t : X × Account) → GrowsIn t.1 (go t)) → GrowsIn a (r >>= go)
 grows-more a (Ok t) go here more = later a t.1 (go t) here (more t)
 grows-more a (Err note) go here more = tt
@@ -102,7 +102,7 @@ grows-either a false r q first second = second
 
 -- Conditions.
 
-truth-grows : (spot : Spot) (index : ℕ) (truth : Result Bool EvalErr) (a : Account) → GrowsIn a (truth_after spot index truth a)
+pub truth-grows : (spot : Spot) (index : ℕ) (truth : Result Bool EvalErr) (a : Account) → GrowsIn a (truth_after spot index truth a)
 truth-grows spot index (Ok truth) a = same-grows a
 truth-grows spot index (Err err) a =
     grows-into a (under spot.mode (note_at spot index err) a) (λ b. Ok (false, b))

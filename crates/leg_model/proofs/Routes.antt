@@ -1,32 +1,15 @@
 -- The account of a routing connector notes its first errors.
-use Rattle.std.proofs.Common.{Bool, false, List, [], ◌∷◌, Result, Ok, Err}
-use Rattle.conf_json.specs.Account.{Account, under}
-use Rattle.conf_json.specs.declared.account.Note.{Note}
+use Rattle.std.proofs.Common.{List, [], ◌∷◌, Ok}
+use Rattle.conf_json.specs.Account.{Account}
 use Rattle.conf_json.specs.declared.settings.RouteSettings.{RouteSettings}
-use Rattle.leg_model.proofs.Accounts.{GrowsIn, GrowsTo, later, same-grows, under-grows}
+use Rattle.leg_model.proofs.Accounts.{GrowsIn, grows-more, same-grows, truth-grows}
 use Rattle.ottl_eval.specs.Stages.{stage}
 use Rattle.ottl_eval.specs.Values.{holds}
 use Rattle.pdata_tree.specs.Operations.{TreeOps}
 use Rattle.pdata_tree.specs.declared.path.PathTo.{PathTo}
 use Rattle.pdata_tree.specs.declared.place.Place.{Place}
-use Rattle.pdata_value.specs.declared.error.EvalErr.{EvalErr}
-use Rattle.routing_conn.specs.Meaning.{◌>>=◌, Judge, counts_as, empty_cache, hits, judges, matches, parted, routed, routed_by, row_gives, row_note}
-
-grows-more : {X Y : Type 0} (a : Account) (r : Result (X × Account) Note) (go : X × Account → Result (Y × Account) Note)
-    → GrowsIn a r → ((t : X × Account) → GrowsIn t.1 (go t)) → GrowsIn a (r >>= go)
-grows-more a (Ok t) go here more = later a t.1 (go t) here (more t)
-grows-more a (Err note) go here more = tt
-
-grows-into : {Y : Type 0} (a : Account) (r : Result Account Note) (go : Account → Result (Y × Account) Note)
-    → GrowsTo a r → ((b : Account) → GrowsIn b (go b)) → GrowsIn a (r >>= go)
-grows-into a (Ok b) go here more = later a b (go b) here (more b)
-grows-into a (Err note) go here more = tt
-
-counts-grow : (judge : Judge) (place : Place) (truth : Result Bool EvalErr) (a : Account) → GrowsIn a (counts_as judge place truth a)
-counts-grow judge place (Ok truth) a = same-grows a
-counts-grow judge place (Err err) a =
-    grows-into a (under judge.mode (row_note judge place err) a) (λ b. Ok (false, b))
-    (under-grows judge.mode (row_note judge place err) a) (λ b. same-grows b)
+use Rattle.proc_targets.specs.Judging.{◌>>=◌, no_pairs}
+use Rattle.routing_conn.specs.Meaning.{Judge, hits, judges, matches, parted, routed, routed_by, row_gives, spot_of}
 
 module _ {T : Type 0} (ops : TreeOps T PathTo) where
   hits-grow : (judge : Judge) (tree : T) (ps : List Place) (a : Account) → GrowsIn a (hits ops judge tree ps a)
@@ -34,7 +17,7 @@ module _ {T : Type 0} (ops : TreeOps T PathTo) where
   hits-grow judge tree (p ∷ ps) a =
       grows-more a (matches ops judge tree p a)
       (λ first. hits ops judge tree ps first.1 >>= λ others. Ok (first.0 ∷ others.0, others.1))
-      (counts-grow judge p (holds ops judge.row.condition.expr (stage tree judge.row.context p empty_cache)) a)
+      (truth-grows (spot_of judge p) judge.index (holds ops judge.row.condition.expr (stage tree judge.row.context p no_pairs)) a)
       (λ first. grows-more first.1 (hits ops judge tree ps first.1) (λ others. Ok (first.0 ∷ others.0, others.1))
       (hits-grow judge tree ps first.1) (λ others. same-grows others.1))
 

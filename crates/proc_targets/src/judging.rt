@@ -41,8 +41,9 @@ pub fn any_holds<'p, S: Scene>(
     Ok(false)
 }
 
-// Whether the condition with this number holds.
-fn judge<'p, S: Scene>(
+/// Whether the condition with this number holds, with the empty cache. One that errs doesn't hold
+/// where the work goes on.
+pub fn judge<'p, S: Scene>(
     alloc: Global,
     scene: &S,
     matchers: &mut KeptMatchers<'p>,

@@ -6,7 +6,7 @@ mod memory;
 mod places;
 mod spot;
 
-pub use judging::any_holds;
+pub use judging::{any_holds, judge};
 pub use memory::{narrow, or_stop};
 pub use places::list_targets;
 pub use spot::{Spot, meet};

@@ -1,4 +1,1 @@
-mod Modes
-mod Places
-mod Seen
 mod Turns

@@ -2,5 +2,3 @@
 pub mod Meaning
 -- What its call answers, beside the meaning.
 pub mod Answers
--- Inside this crate: the objects in one resource.
-pub mod Targets

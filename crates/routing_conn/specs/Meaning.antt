@@ -1,9 +1,9 @@
 -- What a routing connector makes of a tree: one tree for each row of its table, and the rest.
-use Rattle.std.specs.Prelude.{ℕ, ◌+◌, Bool, false, not, List, [], ◌∷◌, map, Result, Ok, Err}
+use Rattle.std.specs.Prelude.{ℕ, ◌+◌, Bool, not, List, [], ◌∷◌, map, Result, Ok}
 use Rattle.conf_draft.specs.declared.draft.Action.{Action}
 use Rattle.conf_draft.specs.declared.draft.Action.TheVariants.{Move, Copy}
 use Rattle.conf_draft.specs.declared.draft.ErrorMode.{ErrorMode}
-use Rattle.conf_json.specs.Account.{Account, under}
+use Rattle.conf_json.specs.Account.{Account}
 use Rattle.conf_json.specs.declared.account.Note.{Note}
 use Rattle.conf_json.specs.declared.account.Part.TheVariants.{RouteRow as the_row}
 use Rattle.conf_json.specs.declared.settings.RouteRow.{RouteRow}
@@ -15,14 +15,8 @@ use Rattle.pdata_tree.specs.declared.path.PathTo.{PathTo}
 use Rattle.pdata_tree.specs.declared.place.Context.{Context}
 use Rattle.pdata_tree.specs.declared.place.Context.TheVariants.{Resource}
 use Rattle.pdata_tree.specs.declared.place.Place.{Place}
-use Rattle.pdata_value.specs.declared.error.EvalErr.{EvalErr}
-use Rattle.pdata_value.specs.declared.pairs.Pairs.{Pairs}
-
--- one thing after another, until the work ends with a note
-infixl 10 ◌>>=◌
-abbrev pub ◌>>=◌ : {A B : Type 0} → Result A Note → (A → Result B Note) → Result B Note
-(Ok x) >>= f = f x
-(Err note) >>= f = Err note
+use Rattle.proc_targets.specs.Judging.{◌>>=◌, no_pairs, truth_after}
+use Rattle.proc_targets.specs.declared.spot.Spot.{Spot}
 
 -- a tree for each row, and what the rows left
 pub record Routed (T : Type 0) : Type 0 where
@@ -41,33 +35,22 @@ judges mode index [] = []
 judges mode index (row ∷ rows) =
     record { mode = mode; index = index; row = row } ∷ judges mode (index + 1) rows
 
--- the note of a row's condition that erred at a place
-abbrev pub row_note : Judge → Place → EvalErr → Note
-row_note judge place error = record {
+-- where the condition of a row stands on an object
+abbrev pub spot_of : Judge → Place → Spot
+spot_of judge place = record {
+  mode = judge.mode;
   part = the_row;
   group = 0;
-  index = judge.index;
   context = judge.row.context;
   place = place;
-  err = error;
 }
-
--- whether a condition counts as holding: where the work goes on after an error, it doesn't
-abbrev pub counts_as : Judge → Place → Result Bool EvalErr → Account → Result (Bool × Account) Note
-counts_as judge place (Ok holding) account = Ok (holding, account)
-counts_as judge place (Err error) account =
-    under judge.mode (row_note judge place error) account >>= λ after. Ok (false, after)
-
--- the cache of a condition, which is empty
-abbrev pub empty_cache : Pairs
-empty_cache = record { items = [] }
 
 module _ {T : Type 0} (ops : TreeOps T PathTo) where
   -- whether a row matches the object at a place
   abbrev pub matches : Judge → T → Place → Account → Result (Bool × Account) Note
   matches judge tree place account =
-      counts_as judge place
-      (holds ops judge.row.condition.expr (stage tree judge.row.context place empty_cache)) account
+      truth_after (spot_of judge place) judge.index
+      (holds ops judge.row.condition.expr (stage tree judge.row.context place no_pairs)) account
 
   -- whether a row matches each of these objects, in their order
   abbrev pub hits : Judge → T → List Place → Account → Result (List Bool × Account) Note

@@ -1,71 +1,37 @@
 //! The condition of a row on each object of its context.
 
-ghost use Rattle.std.specs.Prelude.{◌≡◌, Err};
-ghost use Rattle.conf_json.specs.declared.account.PlainStop.TheVariants.{NoMemory};
-ghost use Rattle.pdata_value.specs.Answers.{Answers};
+ghost use Rattle.std.specs.Prelude.{◌≡◌};
 ghost use Rattle.pdata_tree.specs.Operations.{log_trees};
-ghost use Rattle.ottl_eval.specs.Stages.{stage};
-ghost use Rattle.ottl_eval.specs.Values.{holds};
-ghost use Rattle.routing_conn.specs.Answers.{Goes, Stays, judge_of};
+ghost use Rattle.proc_targets.specs.Ends.{Ends, FailsUnder, Stays};
+ghost use Rattle.routing_conn.specs.Answers.{judge_of};
 ghost use Rattle.routing_conn.specs.Meaning as spec;
-ghost use Rattle.routing_conn.specs.Meaning.{counts_as, empty_cache, hits, row_note};
 
-use conf_json::{ErrorMode, Note, NoteBook, Part, PlainStop, RouteRow};
+use conf_json::{ErrorMode, NoteBook, Part, PlainStop, RouteRow};
 use item_list::ItemList;
-use ottl_eval::{Cache, KeptMatchers, holds_with};
+use ottl_eval::KeptMatchers;
 use pdata_tree::{Batch, Place, PlainScene};
-use pdata_value::{EvalErr, EvalStop};
-use std::alloc::{AllocError, Global};
+use proc_targets::{Spot, judge, or_stop};
+use std::alloc::Global;
 
 /// A row of a table, with its number and what an error does.
 #[derive(Clone, Copy)]
 pub(crate) struct RowJudge<'p> {
     pub(crate) mode: ErrorMode,
-    pub(crate) index: u32,
+    pub(crate) index: usize,
     pub(crate) row: &'p RouteRow,
 }
 
 impl<'p> RowJudge<'p> {
-    // The note of an error at a place.
-    fn note(&self, place: Place, err: EvalErr) -> Note
-        ensures { result ≡ row_note (judge_of self.now) place err }
+    // Where the row's condition stands on an object.
+    fn spot(&self, place: Place) -> Spot
+        ensures { result ≡ spec.spot_of (judge_of self.now) place }
     {
-        Note {
+        Spot {
+            mode: self.mode,
             part: Part::RouteRow,
             group: 0,
-            index: self.index,
             context: self.row.context,
             place,
-            err,
-        }
-    }
-
-    // Whether the condition holds at a place.
-    fn holds_at(
-        &self,
-        alloc: Global,
-        tree: &mut Batch,
-        place: Place,
-        matchers: &mut KeptMatchers<'p>,
-    ) -> Result<bool, EvalStop>
-        ensures value { Answers result (holds log_trees self.now.row.now.condition.expr
-            (stage tree.old self.now.row.now.context place empty_cache)) }
-        ensures tree { tree.new ≡ tree.old }
-    {
-        let cache = Cache::new(alloc);
-        let scene = PlainScene::new(tree, self.row.context, place);
-        holds_with(alloc, &scene, &cache, matchers, &self.row.condition)
-    }
-
-    // What an error at a place does; where the work goes on, the condition counts as false.
-    fn meet(&self, place: Place, err: EvalErr, book: &mut NoteBook) -> Result<bool, PlainStop>
-        ensures value { Goes (λ answer. answer) book.new result
-            (counts_as (judge_of self.now) place (Err err) book.old) }
-        ensures stays { Stays self.now.mode book.old book.new }
-    {
-        match book.meet(self.mode, self.note(place, err)) {
-            Ok(()) => Ok(false),
-            Err(note) => Err(PlainStop::Failed(note)),
         }
     }
 
@@ -78,20 +44,27 @@ impl<'p> RowJudge<'p> {
         matchers: &mut KeptMatchers<'p>,
         book: &mut NoteBook,
     ) -> Result<bool, PlainStop>
-        ensures value { Goes (λ answer. answer) book.new result
+        ensures value { Ends book.new result
             (spec.matches log_trees (judge_of self.now) tree.old place book.old) }
-        ensures stays { Stays self.now.mode book.old book.new }
         ensures tree { tree.new ≡ tree.old }
+        ensures stays { Stays self.now.mode book.old book.new }
+        ensures failed { FailsUnder self.now.mode result }
     {
-        match self.holds_at(alloc, tree, place, matchers) {
-            Ok(holds) => Ok(holds),
-            Err(EvalStop::Err(err)) => self.meet(place, err, book),
-            Err(EvalStop::NoMemory) => Err(PlainStop::NoMemory),
-        }
+        let spot = self.spot(place);
+        let scene = PlainScene::new(tree, self.row.context, place);
+        judge(
+            alloc,
+            &scene,
+            matchers,
+            &self.row.condition,
+            &spot,
+            self.index,
+            book,
+        )
     }
 
     /// Whether the row matches each of these objects.
-    #[tactic(auto, using(crate::proofs::Turns::flags_turn))]
+    #[tactic(auto, using(proc_targets::proofs::Flags::flags_turn, proc_targets::proofs::Stops::stops))]
     pub(crate) fn hits(
         &self,
         alloc: Global,
@@ -100,23 +73,17 @@ impl<'p> RowJudge<'p> {
         matchers: &mut KeptMatchers<'p>,
         book: &mut NoteBook,
     ) -> Result<ItemList<bool>, PlainStop>
-        ensures value { Goes (λ flags. flags) book.new result
+        ensures value { Ends book.new result
             (spec.hits log_trees (judge_of self.now) tree.old places.now book.old) }
-        ensures stays { Stays self.now.mode book.old book.new }
         ensures tree { tree.new ≡ tree.old }
+        ensures stays { Stays self.now.mode book.old book.new }
+        ensures failed { FailsUnder self.now.mode result }
     {
-        let mut flags = ItemList::new(alloc);
+        let mut flags = or_stop(ItemList::with_capacity(alloc, places.len()))?;
         for place in places {
             let hit = self.matches(alloc, tree, *place, matchers, book)?;
-            flags.push(hit).map_err(no_memory)?;
+            or_stop(flags.push(hit))?;
         }
         Ok(flags)
     }
-}
-
-/// Want of memory, as the reason why a component didn't finish.
-pub(crate) fn no_memory(_: AllocError) -> PlainStop
-    ensures { result ≡ NoMemory }
-{
-    PlainStop::NoMemory
 }

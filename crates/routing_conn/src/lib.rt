@@ -4,7 +4,6 @@
 mod judging;
 mod parting;
 mod routing;
-mod targets;
 
 pub use routing::{Batches, PlainRouted, apply_plain};
 

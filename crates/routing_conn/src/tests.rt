@@ -3,6 +3,7 @@
 use crate::{PlainRouted, apply_plain};
 use conf_json::{Action, ErrorMode, NoteBook, PlainStop, RouteRow, RouteSettings};
 use item_list::ItemList;
+use ottl_eval::KeptMatchers;
 use ottl_plan::{PlannedCondition, PlannedExpr};
 use pdata_tree::{
     Batch, Context, Field, Key, LogRecord, PathTo, ResourceNode, ResourceTree, ScopeNode, ScopeTree,
@@ -129,7 +130,9 @@ fn route(
         default_pipelines: ItemList::new(alloc),
     };
     let mut book = NoteBook::new();
-    let text = match apply_plain(alloc, &settings, Batch { resources }, &mut book) {
+    let mut matchers = KeptMatchers::new(alloc);
+    let tree = Batch { resources };
+    let text = match apply_plain(alloc, &settings, tree, &mut matchers, &mut book) {
         Ok(routed) => shown(alloc, &routed)?,
         Err(PlainStop::Failed(note)) => {
             format!(in alloc; "row {} log {} ", note.index, note.place.log)?

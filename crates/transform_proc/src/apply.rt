@@ -13,19 +13,20 @@ use pdata_tree::{Batch, Place};
 use proc_targets::{list_targets, narrow, or_stop};
 use std::alloc::Global;
 
-/// Runs the groups in order on a tree. The tree of a run that fails is given up.
+/// Runs the groups in order on a tree, with the matchers that are kept. The tree of a run that fails
+/// is given up.
 #[tactic(auto, using(proc_targets::proofs::Stops::stops))]
-pub fn apply_plain(
+pub fn apply_plain<'p>(
     alloc: Global,
-    settings: &TransformSettings,
+    settings: &'p TransformSettings,
     tree: Batch,
+    matchers: &mut KeptMatchers<'p>,
     book: &mut NoteBook,
 ) -> Result<Batch, PlainStop>
     ensures value { Ends book.new result (transformed log_trees settings.now tree book.old) }
     ensures stays { Stays settings.now.error_mode book.old book.new }
     ensures failed { FailsUnder settings.now.error_mode result }
 {
-    let mut matchers = KeptMatchers::new(alloc);
     let mut tree = tree;
     for (number, group) in settings.log_statements.as_slice().iter().enumerate() {
         let turn = Turn {
@@ -33,7 +34,7 @@ pub fn apply_plain(
             number: or_stop(narrow(number))?,
             group,
         };
-        tree = run_group(alloc, tree, &turn, &mut matchers, book)?;
+        tree = run_group(alloc, tree, &turn, matchers, book)?;
     }
     Ok(tree)
 }

@@ -4,6 +4,7 @@ use crate::apply_plain;
 use conf_json::{ErrorMode, Group, Note, NoteBook, PlainStop, TransformSettings};
 use func_text::RegexMaker;
 use item_list::ItemList;
+use ottl_eval::KeptMatchers;
 use ottl_lex::MAX_TEXT;
 use ottl_parse::{Condition, Statement, parse_condition, parse_statement};
 use ottl_plan::{PlannedCondition, PlannedStatement, plan_condition, plan_statement};
@@ -199,7 +200,9 @@ pub(crate) fn run(
         log_statements,
     };
     let mut book = NoteBook::new();
-    let end = apply_plain(alloc, &settings, tree(alloc, count)?, &mut book);
+    let mut matchers = KeptMatchers::new(alloc);
+    let tree = tree(alloc, count)?;
+    let end = apply_plain(alloc, &settings, tree, &mut matchers, &mut book);
     let mut text = end_text(alloc, end)?;
     text.push_str("; ")?;
     text.push_str(book_text(alloc, &book)?.as_str())?;

@@ -2,7 +2,7 @@ use Rattle.std.proofs.Common.{◌≡◌, drop}
 use Rattle.pdata_tree.specs.Operations.{log_trees}
 use Rattle.proc_targets.specs.Ends.{Stays}
 use Rattle.filter_proc.specs.Meaning.{flags_of}
-use Rattle.filter_proc.proofs.Flags.{behind}
+use Rattle.proc_targets.proofs.Flags.{behind}
 use Rattle.filter_proc.proofs.apply.judge_records.Given as goal
 
 -- the flags so far, then those of the log records left, are all of them
