@@ -1,5 +1,5 @@
 -- What is written for one line is what is meant for that line alone.
-use Rattle.std.proofs.Common.{◌≡◌, ℕ, suc, ◌+◌, Bool, true, false, List, [], ◌∷◌, ◌++◌, length, map, Result, Ok, Err, if◌then◌else◌, refl, sym, ap, ◌∙◌, append-nil, add-zero}
+use Rattle.std.proofs.Common.{◌≡◌, ℕ, suc, ◌+◌, Bool, true, false, List, [], ◌∷◌, ◌++◌, map, Ok, Err, if◌then◌else◌, refl, sym, ap, ◌∙◌, append-nil, add-zero}
 use Rattle.std.specs.List.{concat}
 use Rattle.conf_draft.specs.declared.draft.Exporter.{Exporter}
 use Rattle.export_sink.specs.Bundles.{bundle_of}

@@ -1,14 +1,13 @@
 -- From file to file: what a step over the first file and the rest leave together.
-use Rattle.std.proofs.Common.{◌≡◌, ◌≢◌, ◌≤◌, ◌-◌, ◌∙◌, ◌++◌, ◌⊎◌, ◌∷◌, [], List, ℕ, Option, Some, Ok, Err, ap, sym, refl, inl, inr, subst, append-nil, length, take, drop, get_or, arith, true, false}
+use Rattle.std.proofs.Common.{◌≡◌, ◌≤◌, ◌-◌, ◌∙◌, ◌⊎◌, ◌∷◌, [], List, ℕ, Option, Some, Ok, Err, ap, sym, refl, inl, inr, subst, append-nil, length, take, drop, get_or, arith, true, false}
 use Rattle.std.proofs.lemmas.List.{take_rest}
 use Rattle.contract_words.specs.Causes.{RoseIf}
-use Rattle.contract_words.specs.Fronts.{IsFront}
 use Rattle.contract_words.specs.Held.{Held, OthersStay, AddsFront}
 use Rattle.tele_io.specs.Calls.{Empties, AppendsAll}
 use Rattle.tele_io.specs.Views.{DiskView, Told, Writes}
 use Rattle.tele_io.specs.declared.disk.DiskFault.{DiskFault}
 use Rattle.tele_io.proofs.Tells.{told-then}
-use Rattle.export_sink.specs.Files.{FileText, IsNoFile, OnlyThese, Each, Changed, AddsText, AddsSome, HoldTexts, FilesStay, HoldsFront, HoldFronts}
+use Rattle.export_sink.specs.Files.{FileText, IsNoFile, OnlyThese, Each, Changed, AddsText, AddsSome, HoldTexts, FilesStay, HoldFronts}
 use Rattle.export_sink.specs.Writing.{Adds, Creates}
 
 -- what the files that are left will hold decides what all will hold

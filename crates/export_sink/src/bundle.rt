@@ -18,6 +18,7 @@ use graph_build::Leg;
 use item_list::ItemList;
 use leg_model::{FileTotal, LegCounts, Totals};
 use otlp_json::{PayloadFault, PayloadStop, read_payload};
+use ottl_eval::KeptMatchers;
 use pdata_value::Bytes;
 use plain_legs::{LegOutcome, NO_COUNTS, run_legs};
 use std::alloc::{AllocError, Global};
@@ -31,13 +32,14 @@ pub struct Bundle {
     pub totals: Totals,
 }
 
-/// What is written for a line that has that payload number.
+/// What is written for a line that has that payload number, with the matchers that are kept.
 #[tactic(auto, using(crate::proofs::Bundles::left_one, crate::proofs::Bundles::refused_one))]
-pub fn bundle_line(
+pub fn bundle_line<'p>(
     alloc: Global,
-    plan: &RunPlan<'_>,
+    plan: &RunPlan<'p>,
     number: u64,
     line: &[u8],
+    matchers: &mut KeptMatchers<'p>,
 ) -> Result<Bundle, AllocError>
     requires short { length line.now ≤ max_line }
     requires fits { RunFits plan.now }
@@ -45,7 +47,7 @@ pub fn bundle_line(
 {
     match read_payload(alloc, line) {
         Ok(tree) => {
-            let left = run_legs(alloc, &plan.legs, &tree)?;
+            let left = run_legs(alloc, &plan.legs, tree, matchers)?;
             Ok(bundle_left(alloc, plan, number, left.as_slice())?)
         }
         Err(PayloadStop::Fault(fault)) => bundle_refused(alloc, plan, number, fault),

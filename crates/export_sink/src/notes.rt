@@ -4,20 +4,20 @@ ghost use Rattle.std.specs.Prelude.{◌≡◌, ◌++◌, [], map, slice_get, str
 ghost use Rattle.export_sink.specs.Left.{notes_by};
 ghost use Rattle.leg_model.specs.Notes as spec;
 ghost use Rattle.leg_model.specs.Notes.{counted_line, counted_text, failed_text, leg_text, outcome_text, refused_text};
-ghost use Rattle.leg_model.specs.Parts.{connector_names, known_among, part_names, processor_names};
+ghost use Rattle.leg_model.specs.Parts.{known_among, part_names};
 ghost use Rattle.std.specs.Fmt.{decimal};
 ghost use Rattle.conf_draft.specs.References.{is_among};
 ghost use Rattle.plain_legs.specs.Views.{outcome_of};
 
-use conf_draft::{Connector, Draft, Processor};
+use conf_draft::Draft;
 use conf_json::{Note, Part};
-use graph_build::Leg;
+use graph_build::{Leg, find_pipeline};
 use item_list::ItemList;
 use leg_model::LegNote;
 use otlp_json::PayloadFault;
 use pdata_tree::{Context, Place};
 use pdata_value::Text;
-use plain_legs::{LegOutcome, find_pipeline};
+use plain_legs::{LegOutcome, Named};
 use std::alloc::{AllocError, Global};
 
 /// The note of a refused payload.
@@ -235,60 +235,42 @@ fn names_of<'p>(
 {
     let mut names = ItemList::new(alloc);
     if let Some(pipeline) = find_pipeline(draft.pipelines.as_slice(), name) {
-        push_processors(&mut names, pipeline.processors.as_slice(), draft)?;
-        push_connectors(&mut names, pipeline.exporters.as_slice(), draft)?;
+        push_known(
+            &mut names,
+            pipeline.processors.as_slice(),
+            draft.processors.as_slice(),
+        )?;
+        push_known(
+            &mut names,
+            pipeline.exporters.as_slice(),
+            draft.connectors.as_slice(),
+        )?;
     }
     Ok(names)
 }
 
-fn push_processors<'p>(
+// Adds those of the listed names that are among these.
+fn push_known<'p, N: Named>(
     names: &mut ItemList<&'p str>,
     listed: &'p [Text],
-    draft: &Draft,
+    known: &[N],
 ) -> Result<(), AllocError>
-    ensures { OnOk result (map (λ name. name.now) names.new
-        ≡ map (λ name. name.now) names.old ++ known_among (processor_names draft.now) listed.now) }
+    ensures { OnOk result (map (λ name. name.now) names.new ≡ map (λ name. name.now) names.old
+        ++ known_among (map N.name_of known.now) listed.now) }
 {
     for name in listed {
-        if has_processor(draft.processors.as_slice(), name.as_str()) {
+        if has_named(known, name.as_str()) {
             names.push(name.as_str())?;
         }
     }
     Ok(())
 }
 
-fn push_connectors<'p>(
-    names: &mut ItemList<&'p str>,
-    listed: &'p [Text],
-    draft: &Draft,
-) -> Result<(), AllocError>
-    ensures { OnOk result (map (λ name. name.now) names.new
-        ≡ map (λ name. name.now) names.old ++ known_among (connector_names draft.now) listed.now) }
+fn has_named<N: Named>(known: &[N], name: &str) -> bool
+    ensures { result ≡ is_among name.now (map N.name_of known.now) }
 {
-    for name in listed {
-        if has_connector(draft.connectors.as_slice(), name.as_str()) {
-            names.push(name.as_str())?;
-        }
-    }
-    Ok(())
-}
-
-fn has_processor(processors: &[Processor], name: &str) -> bool
-    ensures { result ≡ is_among name.now (map (λ p. p.name) processors.now) }
-{
-    for processor in processors {
-        if name == processor.name.as_str() {
-            return true;
-        }
-    }
-    false
-}
-
-fn has_connector(connectors: &[Connector], name: &str) -> bool
-    ensures { result ≡ is_among name.now (map (λ c. c.name) connectors.now) }
-{
-    for connector in connectors {
-        if name == connector.name.as_str() {
+    for item in known {
+        if name == item.name() {
             return true;
         }
     }

@@ -1,7 +1,6 @@
 //! What a run knows of a configuration.
 
 ghost use Rattle.std.specs.Prelude.{◌≡◌, map, IfOk};
-ghost use Rattle.conf_draft.specs.References as references;
 ghost use Rattle.export_sink.specs.Planning.{IsRunOf};
 ghost use Rattle.export_sink.specs.Plans.{goes_in, ways_in};
 ghost use Rattle.graph_build.specs.Conf.{conf_of};
@@ -9,10 +8,9 @@ ghost use Rattle.leg_model.specs.Exports as spec;
 
 use crate::run_plan::RunPlan;
 use conf_draft::{Draft, Exporter};
-use graph_build::{Leg, Plan};
+use graph_build::{Leg, Plan, find_pipeline, is_among};
 use item_list::ItemList;
-use pdata_value::Text;
-use plain_legs::{find_pipeline, plan_legs};
+use plain_legs::plan_legs;
 use std::alloc::{AllocError, Global};
 
 /// What a run needs of a plan.
@@ -72,15 +70,4 @@ fn goes_to(draft: &Draft, exporter: &str, leg: &Leg) -> bool
         Some(pipeline) => is_among(exporter, pipeline.exporters.as_slice()),
         None => false,
     }
-}
-
-fn is_among(name: &str, names: &[Text]) -> bool
-    ensures { result ≡ references.is_among name.now names.now }
-{
-    for other in names {
-        if name == other.as_str() {
-            return true;
-        }
-    }
-    false
 }

@@ -4,6 +4,7 @@ use crate::{bundle_line, plan_run, plus_totals, summary_text};
 use conf_json::MAX_CONF;
 use func_text::RegexMaker;
 use graph_build::{Plan, check_conf};
+use ottl_eval::KeptMatchers;
 use std::alloc::{AllocError, Global};
 use std::test::Fail;
 
@@ -70,7 +71,8 @@ fn told(alloc: Global, conf: &str, line: &str) -> Result<Vec<u8>, Fail> {
     }
     let plan = planned(alloc, conf)?;
     let run = plan_run(alloc, &plan)?;
-    let bundle = bundle_line(alloc, &run, 1, line.as_bytes())?;
+    let mut matchers = KeptMatchers::new(alloc);
+    let bundle = bundle_line(alloc, &run, 1, line.as_bytes(), &mut matchers)?;
     let summary = summary_text(alloc, &run, &bundle.totals)?;
     let mut told = Vec::new(alloc);
     for text in bundle.texts.as_slice() {
@@ -88,7 +90,8 @@ fn told_twice(alloc: Global, conf: &str, line: &str) -> Result<Vec<u8>, Fail> {
     }
     let plan = planned(alloc, conf)?;
     let run = plan_run(alloc, &plan)?;
-    let bundle = bundle_line(alloc, &run, 1, line.as_bytes())?;
+    let mut matchers = KeptMatchers::new(alloc);
+    let bundle = bundle_line(alloc, &run, 1, line.as_bytes(), &mut matchers)?;
     let both = plus_totals(alloc, &bundle.totals, &bundle.totals)?;
     Ok(summary_text(alloc, &run, &both)?)
 }

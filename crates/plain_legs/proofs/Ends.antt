@@ -1,5 +1,5 @@
 -- How a leg ends that got some resource.
-use Rattle.std.proofs.Common.{◌≡◌, ◌↔◌, ℕ, Bool, true, false, IsTrue, List, [], ◌∷◌, Result, Ok, Err, refl, sym, ap, ◌∙◌}
+use Rattle.std.proofs.Common.{◌≡◌, ◌↔◌, ℕ, Bool, true, false, IsTrue, List, [], ◌∷◌, Result, refl, sym, ap, ◌∙◌}
 use Rattle.leg_model.specs.Course.{Course, Failure, Outcome, by_parts, ended, left_of, outcome, start}
 use Rattle.leg_model.specs.Parts.{Parts}
 use Rattle.pdata_tree.specs.Grouping.{grouped}

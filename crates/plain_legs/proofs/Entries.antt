@@ -1,12 +1,12 @@
 -- What the legs before a leg left tells what it gets.
-use Rattle.std.proofs.Common.{◌≡◌, ℕ, zero, suc, ◌+◌, ◌<◌, ◌≤◌, List, [], ◌∷◌, ◌++◌, length, Option, Some, None, slice_get, get_or, refl, sym, ap, ◌∙◌, subst, arith}
+use Rattle.std.proofs.Common.{◌≡◌, ℕ, zero, suc, ◌<◌, ◌≤◌, List, length, Option, Some, None, slice_get, get_or, refl, sym, ap, ◌∙◌, subst, arith}
 use Rattle.std.proofs.lemmas.Option.{slice_get_within, slice_get-get_or}
 use Rattle.graph_build.specs.declared.leg.Leg.{Leg}
 use Rattle.leg_model.specs.Course.{Outcome}
 use Rattle.leg_model.specs.Facts.{ParentsFirst}
 use Rattle.leg_model.specs.Exports.{logs}
 use Rattle.graph_build.specs.Conf.{Conf}
-use Rattle.leg_model.specs.Legs.{below, gets, handed, leaves, leg_outcome, parent_of}
+use Rattle.leg_model.specs.Legs.{below, gets, handed, leaves, leg_outcome}
 use Rattle.pdata_tree.specs.Places.{within}
 use Rattle.pdata_tree.specs.declared.batch.Batch.{Batch}
 use Rattle.plain_legs.specs.Views.{entry_below, entry_by}
@@ -94,3 +94,19 @@ pub entry_is : (conf : Conf) → ParentsFirst conf.legs → (tree : Batch) (numb
     → entry_by leg before tree ≡ gets logs conf tree (length conf.legs) leg
 entry_is conf first tree number leg at before known =
     by_length conf first tree number leg at before known (length conf.legs) refl
+
+-- only a leg without one above it gets the payload's tree
+pub same_entry : (conf : Conf) → ParentsFirst conf.legs → (tree kept : Batch) (number : ℕ) (leg : Leg)
+    → slice_get conf.legs number ≡ Some leg → (before : List (Outcome Batch)) → Left conf tree number before
+    → (leg.parent ≡ None → kept ≡ tree) → entry_by leg before kept ≡ entry_by leg before tree
+same_entry conf first tree kept number leg at before known root = by leg.parent refl
+  where
+    by : (parent : Option ℕ) → leg.parent ≡ parent
+        → entry_below leg (within (slice_get before) parent) kept ≡ entry_below leg (within (slice_get before) parent) tree
+    by None is = root is
+    by (Some p) is =
+        let less : p < number = first number p leg at is in
+        let here : number < length conf.legs = slice_get_within conf.legs number leg at in
+        let q : Leg = get_or conf.legs p leg in
+        let there : slice_get conf.legs p ≡ Some q = slice_get-get_or conf.legs p leg (omega (arith, less, here)) in
+        ap (λ o. entry_below leg o kept) (known p less q there) ∙ sym (ap (λ o. entry_below leg o tree) (known p less q there))

@@ -1,5 +1,5 @@
 -- What the types of this crate stand for, and how their calls end.
-use Rattle.std.specs.Prelude.{◌≡◌, ◌<◌, ℕ, List, map, Option, Some, None, Result, Ok, Err, slice_get}
+use Rattle.std.specs.Prelude.{◌≡◌, ◌||◌, Bool, false, List, [], ◌∷◌, map, Option, Some, None, is_none, Result, Ok, Err, slice_get}
 use Rattle.conf_json.specs.Account.{Account}
 use Rattle.conf_json.specs.declared.account.Note.{Note}
 use Rattle.conf_json.specs.declared.account.PlainStop.{PlainStop}
@@ -82,6 +82,11 @@ meant_by draft planned = record { draft = draft; planned = planned }
 abbrev pub HaveParts : Meant → List Leg → List PipelineParts → Type 0
 HaveParts meant legs parts =
     map parts_in parts ≡ map (λ leg. parts_of meant leg.pipeline) legs
+
+-- one of these legs has none above it, so it gets the payload itself
+abbrev pub has_root : List Leg → Bool
+has_root [] = false
+has_root (leg ∷ legs) = is_none leg.parent || has_root legs
 
 -- what a leg gets of a payload's tree, where the legs before it left this
 abbrev pub entry_below : Leg → Option (Outcome Batch) → Batch → Batch

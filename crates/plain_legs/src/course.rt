@@ -13,6 +13,7 @@ use crate::parts::PipelineParts;
 use conf_json::{Note, NoteBook, PlainStop, ProcessorSettings, RouteSettings};
 use item_list::ItemList;
 use leg_model::LegNote;
+use ottl_eval::KeptMatchers;
 use pdata_tree::Batch;
 use pdata_value::Text;
 use routing_conn::PlainRouted;
@@ -70,10 +71,11 @@ pub(crate) fn begin(alloc: Global, tree: Batch) -> LegCourse
 }
 
 // What a processor makes of a tree.
-fn process(
+fn process<'p>(
     alloc: Global,
-    settings: &ProcessorSettings,
+    settings: &'p ProcessorSettings,
     tree: Batch,
+    matchers: &mut KeptMatchers<'p>,
     book: &mut NoteBook,
 ) -> Result<Batch, PlainStop>
     ensures { Processes book.old book.new result
@@ -81,10 +83,10 @@ fn process(
 {
     match settings {
         ProcessorSettings::Transform(settings) => {
-            transform_proc::apply_plain(alloc, settings, tree, book)
+            transform_proc::apply_plain(alloc, settings, tree, matchers, book)
         }
         ProcessorSettings::Filter(settings) => {
-            filter_proc::apply_plain(alloc, settings, tree, book)
+            filter_proc::apply_plain(alloc, settings, tree, matchers, book)
         }
         ProcessorSettings::GroupByAttrs(settings) => {
             match groupby_proc::apply_plain(alloc, settings, tree) {
@@ -169,11 +171,12 @@ fn stopped(book: NoteBook, notes: ItemList<LegNote>, number: usize, stop: PlainS
 }
 
 // A processor, with its number.
-fn by_processor(
+fn by_processor<'p>(
     alloc: Global,
     number: usize,
-    settings: &ProcessorSettings,
+    settings: &'p ProcessorSettings,
     course: LegCourse,
+    matchers: &mut KeptMatchers<'p>,
 ) -> Result<LegCourse, CourseStop>
     ensures { Comes result
         (spec.by_processor log_trees grouped number settings.now (course_of course)) }
@@ -181,7 +184,7 @@ fn by_processor(
     let mut course = course;
     let known = course.book.notes().len();
     let before = count_records(&course.tree)?;
-    match process(alloc, settings, course.tree, &mut course.book) {
+    match process(alloc, settings, course.tree, matchers, &mut course.book) {
         Ok(tree) => {
             push_gained(&mut course.notes, number, &course.book, known)?;
             let gone = dropped(settings, before, count_records(&tree)?);
@@ -194,10 +197,11 @@ fn by_processor(
 }
 
 // Processors one after another.
-fn by_processors(
+fn by_processors<'p>(
     alloc: Global,
-    processors: &[&ProcessorSettings],
+    processors: &[&'p ProcessorSettings],
     course: LegCourse,
+    matchers: &mut KeptMatchers<'p>,
 ) -> Result<LegCourse, CourseStop>
     ensures { Comes result
         (spec.by_processors log_trees grouped 0 (map (λ s. s.now) processors.now)
@@ -205,17 +209,18 @@ fn by_processors(
 {
     let mut course = course;
     for (number, settings) in processors.iter().enumerate() {
-        course = by_processor(alloc, number, settings, course)?;
+        course = by_processor(alloc, number, settings, course, matchers)?;
     }
     Ok(course)
 }
 
 // A connector, with its number.
-fn by_connector(
+fn by_connector<'p>(
     alloc: Global,
     number: usize,
-    settings: &RouteSettings,
+    settings: &'p RouteSettings,
     course: LegCourse,
+    matchers: &mut KeptMatchers<'p>,
 ) -> Result<LegCourse, CourseStop>
     ensures { Comes result
         (spec.by_connector log_trees grouped number settings.now (course_of course)) }
@@ -223,7 +228,7 @@ fn by_connector(
     let mut course = course;
     let known = course.book.notes().len();
     let tree = course.tree.copy()?;
-    match routing_conn::apply_plain(alloc, settings, tree, &mut course.book) {
+    match routing_conn::apply_plain(alloc, settings, tree, matchers, &mut course.book) {
         Ok(routed) => {
             push_gained(&mut course.notes, number, &course.book, known)?;
             let rest = left_over(settings.default_pipelines.as_slice(), &routed.rest)?;
@@ -236,11 +241,12 @@ fn by_connector(
 }
 
 // Connectors one after another, the first with that number.
-fn by_connectors(
+fn by_connectors<'p>(
     alloc: Global,
     first: usize,
-    connectors: &[&RouteSettings],
+    connectors: &[&'p RouteSettings],
     course: LegCourse,
+    matchers: &mut KeptMatchers<'p>,
 ) -> Result<LegCourse, CourseStop>
     ensures { Comes result
         (spec.by_connectors log_trees grouped first (map (λ s. s.now) connectors.now)
@@ -249,7 +255,7 @@ fn by_connectors(
     let mut course = course;
     let mut number = first;
     for settings in connectors {
-        course = by_connector(alloc, number, settings, course)?;
+        course = by_connector(alloc, number, settings, course, matchers)?;
         number = next(number)?;
     }
     Ok(course)
@@ -266,19 +272,17 @@ fn next(number: usize) -> Result<usize, AllocError>
 }
 
 /// All parts of a pipeline: its processors, then its connectors.
-pub(crate) fn by_parts(
+pub(crate) fn by_parts<'p>(
     alloc: Global,
-    parts: &PipelineParts<'_>,
+    parts: &PipelineParts<'p>,
     tree: Batch,
+    matchers: &mut KeptMatchers<'p>,
 ) -> Result<LegCourse, CourseStop>
     ensures { Comes result
         (spec.by_parts log_trees grouped (parts_in parts.now) (start tree)) }
 {
-    let course = by_processors(alloc, parts.processors.as_slice(), begin(alloc, tree))?;
-    by_connectors(
-        alloc,
-        parts.processors.len(),
-        parts.connectors.as_slice(),
-        course,
-    )
+    let processors = parts.processors.as_slice();
+    let course = by_processors(alloc, processors, begin(alloc, tree), matchers)?;
+    let connectors = parts.connectors.as_slice();
+    by_connectors(alloc, processors.len(), connectors, course, matchers)
 }

@@ -1,37 +1,43 @@
 //! All legs of a configuration on one payload.
 
-ghost use Rattle.std.specs.Prelude.{◌≡◌, map, slice_get, option_map, IfOk};
+ghost use Rattle.std.specs.Prelude.{◌≡◌, map, slice_get, option_map, true, IfOk};
 ghost use Rattle.leg_model.specs.Exports.{logs};
 ghost use Rattle.leg_model.specs.Legs.{handed, leg_outcome, routed_to};
 ghost use Rattle.plain_legs.specs.Plans.{conf_in, Fits};
-ghost use Rattle.plain_legs.specs.Views.{entry_by, outcome_of};
+ghost use Rattle.plain_legs.specs.Views as spec;
+ghost use Rattle.plain_legs.specs.Views.{entry_by, has_root, outcome_of};
 ghost use Rattle.pdata_tree.specs.Places.{within};
 
 use crate::outcome::{LegOutcome, run_leg};
 use crate::plan::LegPlan;
 use graph_build::Leg;
 use item_list::ItemList;
+use ottl_eval::KeptMatchers;
 use pdata_tree::Batch;
 use std::alloc::{AllocError, Global};
+use std::mem;
 
-/// What each leg leaves of a payload's tree, each on a copy of its own.
+/// What each leg leaves of a payload's tree, each on a copy of its own, with the matchers that are
+/// kept. The last leg that gets the payload itself takes the tree.
 #[tactic(auto, using(crate::proofs::Going::legs_turn, crate::proofs::Going::legs_start, crate::proofs::Going::no_leg, crate::proofs::Going::legs_end))]
-pub fn run_legs(
+pub fn run_legs<'p>(
     alloc: Global,
-    plan: &LegPlan<'_>,
-    tree: &Batch,
+    plan: &LegPlan<'p>,
+    tree: Batch,
+    matchers: &mut KeptMatchers<'p>,
 ) -> Result<ItemList<LegOutcome>, AllocError>
     requires { Fits plan.now }
     ensures { IfOk result (λ left. map outcome_of left
-        ≡ map (leg_outcome logs (conf_in plan.now) tree.now) plan.now.legs.now) }
+        ≡ map (leg_outcome logs (conf_in plan.now) tree) plan.now.legs.now) }
 {
+    let mut tree = tree;
     let mut left = ItemList::with_capacity(alloc, plan.legs.len())?;
     let mut legs = plan.legs;
     let mut parts = plan.parts.as_slice();
     while let [own, other_parts @ ..] = parts {
         if let [leg, other_legs @ ..] = legs {
-            let entry = entry_of(alloc, leg, left.as_slice(), tree)?;
-            left.push(run_leg(alloc, own, entry)?)?;
+            let entry = entry_of(alloc, leg, other_legs, left.as_slice(), &mut tree)?;
+            left.push(run_leg(alloc, own, entry, matchers)?)?;
             legs = other_legs;
         }
         parts = other_parts;
@@ -39,22 +45,50 @@ pub fn run_legs(
     Ok(left)
 }
 
-// A copy of the tree that a leg gets, by what the legs before it left.
+// The tree that a leg gets, by what the legs before it left, where these legs are behind it.
 fn entry_of(
     alloc: Global,
     leg: &Leg,
+    behind: &[Leg],
     before: &[LegOutcome],
-    tree: &Batch,
+    tree: &mut Batch,
 ) -> Result<Batch, AllocError>
-    ensures { IfOk result (λ entry. entry ≡ entry_by leg.now (map outcome_of before.now) tree.now) }
+    ensures entry { IfOk result
+        (λ entry. entry ≡ entry_by leg.now (map outcome_of before.now) tree.old) }
+    ensures stays { has_root behind.now ≡ true → tree.new ≡ tree.old }
 {
     match leg.parent {
-        None => tree.copy(),
+        None => root_entry(alloc, behind, tree),
         Some(parent) => match before.get(parent as usize) {
             Some(outcome) => copy_handed(alloc, leg, outcome),
             None => tree.copy(),
         },
     }
+}
+
+// The payload's own tree, or a copy where a leg behind gets it too.
+fn root_entry(alloc: Global, behind: &[Leg], tree: &mut Batch) -> Result<Batch, AllocError>
+    ensures entry { IfOk result (λ entry. entry ≡ tree.old) }
+    ensures stays { has_root behind.now ≡ true → tree.new ≡ tree.old }
+{
+    if has_root(behind) {
+        return tree.copy();
+    }
+    let empty = Batch {
+        resources: ItemList::new(alloc),
+    };
+    Ok(mem::replace(tree, empty))
+}
+
+fn has_root(legs: &[Leg]) -> bool
+    ensures { result ≡ spec.has_root legs.now }
+{
+    for leg in legs {
+        if leg.parent.is_none() {
+            return true;
+        }
+    }
+    false
 }
 
 // A copy of what the leg above, which ended so, hands to a leg.

@@ -11,6 +11,6 @@ mod planning;
 
 pub use legs::run_legs;
 pub use outcome::{LegOutcome, NO_COUNTS, run_leg};
-pub use parts::{PipelineParts, find_parts, find_pipeline};
+pub use parts::{Named, PipelineParts, find_parts};
 pub use plan::LegPlan;
 pub use planning::plan_legs;

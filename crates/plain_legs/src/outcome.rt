@@ -12,6 +12,7 @@ use crate::course::{CourseStop, LegCourse, LegFailure, by_parts};
 use crate::parts::PipelineParts;
 use item_list::ItemList;
 use leg_model::{LegCounts, LegNote};
+use ottl_eval::KeptMatchers;
 use pdata_tree::Batch;
 use routing_conn::PlainRouted;
 use std::alloc::{AllocError, Global};
@@ -39,12 +40,13 @@ pub const NO_COUNTS: LegCounts = LegCounts {
     errors: 0,
 };
 
-/// What a leg with those parts leaves of the tree that it gets.
+/// What a leg with those parts leaves of the tree that it gets, with the matchers that are kept.
 #[tactic(auto, using(crate::proofs::Ends::ends_so))]
-pub fn run_leg(
+pub fn run_leg<'p>(
     alloc: Global,
-    parts: &PipelineParts<'_>,
+    parts: &PipelineParts<'p>,
     tree: Batch,
+    matchers: &mut KeptMatchers<'p>,
 ) -> Result<LegOutcome, AllocError>
     ensures { IfOk result (λ left. outcome_of left
         ≡ outcome log_trees grouped (parts_in parts.now) tree) }
@@ -53,7 +55,7 @@ pub fn run_leg(
         return Ok(untouched(alloc, tree));
     }
     let taken = count_records(&tree)?;
-    match by_parts(alloc, parts, tree) {
+    match by_parts(alloc, parts, tree, matchers) {
         Ok(course) => arrived(taken, course),
         Err(CourseStop::Failed(failure)) => Ok(failed(alloc, taken, failure)),
         Err(CourseStop::NoMemory) => Err(AllocError),

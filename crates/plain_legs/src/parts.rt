@@ -4,10 +4,10 @@ ghost use Rattle.std.specs.Prelude.{◌≡◌, List, ℕ, map, Some, IfOk, optio
 ghost use Rattle.leg_model.specs.Parts as spec;
 ghost use Rattle.leg_model.specs.Parts.{all_named, parts_of, pipeline_parts};
 ghost use Rattle.plain_legs.specs.Views.{parts_in};
-ghost use Rattle.graph_build.specs.Exits.{pipeline_named};
 
 use conf_draft::{Connector, Draft, Pipeline, Processor};
 use conf_json::{Planned, ProcessorSettings, RouteSettings};
+use graph_build::find_pipeline;
 use item_list::ItemList;
 use pdata_value::Text;
 use std::alloc::{AllocError, Global};
@@ -20,7 +20,7 @@ pub struct PipelineParts<'p> {
 }
 
 /// What has a name in a configuration.
-trait Named {
+pub trait Named {
     ghost name_of: { Self → List ℕ };
 
     fn name(&self) -> &str
@@ -97,18 +97,6 @@ pub fn find_parts<'p>(
             connectors: ItemList::new(alloc),
         }),
     }
-}
-
-/// The pipeline with that name.
-pub fn find_pipeline<'a>(pipelines: &'a [Pipeline], name: &str) -> Option<&'a Pipeline>
-    ensures { option_map (λ p. p.now) result ≡ pipeline_named name.now pipelines.now }
-{
-    for pipeline in pipelines {
-        if name == pipeline.name.as_str() {
-            return Some(pipeline);
-        }
-    }
-    None
 }
 
 fn parts_of_pipeline<'p>(

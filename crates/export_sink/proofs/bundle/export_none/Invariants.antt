@@ -1,4 +1,4 @@
-use Rattle.std.proofs.Common.{◌≡◌, ◌++◌, [], ℕ, List, drop, map}
+use Rattle.std.proofs.Common.{◌≡◌, ◌++◌, [], drop, map}
 use Rattle.export_sink.specs.Left.{total_by}
 use Rattle.export_sink.proofs.bundle.export_none.Given as goal
 
