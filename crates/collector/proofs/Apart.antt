@@ -2,6 +2,7 @@
 use Rattle.std.proofs.Common.{◌≡◌, ◌∙◌, ◌++◌, ◌||◌, ◌∷◌, [], List, ℕ, Bool, true, false, Option, Some, None, Result, Ok, Err, IsOk, IfOk, map, ap, sym, refl, subst, inl, inr, codes}
 use Rattle.std.specs.Str.{bytes_eq}
 use Rattle.std.proofs.lemmas.List.Folds.{list_any-append}
+use Rattle.contract_words.specs.Held.{Held, SameHeld}
 use Rattle.conf_draft.specs.Limits.{files_fault, path_fault, paths_fault}
 use Rattle.conf_draft.specs.References.{is_among}
 use Rattle.conf_draft.specs.declared.draft.Draft.{Draft}
@@ -22,6 +23,9 @@ use Rattle.graph_build.specs.Conf.{Conf, HasDraft, conf_of}
 use Rattle.pdata_value.proofs.Bools.{bytes_self}
 use Rattle.collector.specs.Configured.{runnable}
 use Rattle.collector.specs.RunLines.{ApartFrom, Plans}
+use Rattle.collector.specs.Source.{IsSafeFrom, text_in}
+use Rattle.collector.specs.declared.source.Source.{Source}
+use Rattle.collector.specs.declared.source.Source.TheVariants.{File, Made}
 
 none-first : (a b : Option PointedFault) → first_of a b ≡ None → a ≡ None
 none-first None b is = refl
@@ -60,11 +64,23 @@ paths_apart at earlier (e ∷ es) none =
       λ name is. ((λ same. absurd (let e1 = ap (λ (n : List ℕ). is_among n earlier) same in let e2 = is in let e3 = first in cc)), later.1 name (one-more name e.path earlier is)),
     )
 
--- so it is of a configuration, and of the input as one of the names
-pub apart-by : (input : List ℕ) (names : List (List ℕ)) (conf : Conf) → files_fault (input ∷ names) conf.meant.draft ≡ None → ApartFrom input conf
-apart-by input names conf none =
-    let both = paths_apart (member_of [] (codes "exporters")) (input ∷ names) conf.meant.draft.exporters none in
-    record { own = both.0; unread = both.1 input (ap (λ (b : Bool). b || is_among input names) (bytes_self input)) }
+-- so it is of a configuration, and of an input under one of the names, or under none
+pub apart-by : (names : List (List ℕ)) (conf : Conf) → files_fault names conf.meant.draft ≡ None → (source : Source) (name : List ℕ) → IsSafeFrom names source name → ApartFrom (text_in source name) conf
+apart-by names conf none File name safe =
+    let both = paths_apart (member_of [] (codes "exporters")) names conf.meant.draft.exporters none in
+    record { own = both.0; unread = λ was now only. only name (both.1 name safe) }
+apart-by names conf none (Made memory) name safe =
+    let both = paths_apart (member_of [] (codes "exporters")) names conf.meant.draft.exporters none in
+    record { own = both.0; unread = λ was now only. refl }
+
+-- what stands the same is the same input
+pub keeps-same : (source : Source) (name : List ℕ) (was now : Held) → SameHeld was now → text_in source name now ≡ text_in source name was
+keeps-same File name was now same = same name
+keeps-same (Made memory) name was now same = refl
+
+-- a file under the first of the names is one of them
+pub safe-first : (name : List ℕ) (names : List (List ℕ)) → IsSafeFrom (name ∷ names) File name
+safe-first name names = ap (λ (b : Bool). b || is_among name names) (bytes_self name)
 
 -- a configuration that may run is one without a fault
 pub record MayRun (names : List (List ℕ)) (bytes : List ℕ) : Type 0 where
@@ -90,11 +106,11 @@ unfolding runnable
 may-run names bytes ok = may-by names bytes (conf_of bytes) refl refl ok
 
 -- so the files of a plan that may run are apart
-pub apart-plan : (input conf bytes plan : List ℕ) → plan ≡ bytes → IsOk (runnable (input ∷ conf ∷ []) bytes) → IfOk (conf_of plan) (ApartFrom input)
-apart-plan input conf bytes plan is ok =
-    let may = may-run (input ∷ conf ∷ []) bytes ok in
-    subst (λ (b : List ℕ). IfOk (conf_of b) (ApartFrom input)) (sym is)
-    (subst (λ (r : Result Conf ConfFault). IfOk r (ApartFrom input)) (sym may.is) (apart-by input (conf ∷ []) may.conf may.apart))
+pub apart-plan : (names : List (List ℕ)) (source : Source) (name bytes plan : List ℕ) → IsSafeFrom names source name → plan ≡ bytes → IsOk (runnable names bytes) → IfOk (conf_of plan) (ApartFrom (text_in source name))
+apart-plan names source name bytes plan safe is ok =
+    let may = may-run names bytes ok in
+    subst (λ (b : List ℕ). IfOk (conf_of b) (ApartFrom (text_in source name))) (sym is)
+    (subst (λ (r : Result Conf ConfFault). IfOk r (ApartFrom (text_in source name))) (sym may.is) (apart-by names may.conf may.apart source name safe))
 
 -- without a fault of its own, it is the paths that decide
 abbrev runs_by : (names : List (List ℕ)) (r : Result Conf ConfFault) → Result Conf ConfFault

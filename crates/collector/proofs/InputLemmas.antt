@@ -32,10 +32,10 @@ in_lines (taking l t) =
     (l ∷ h.0, elim h.1 [ inl e ↦ inl (ap (taking l) e) | inr e ↦ inr (ap (taking l) e) ])
 
 -- all lines of an input of which these are the first
-pub all-first : (o : Option Held) (name : List ℕ) (lines : List (List ℕ)) → IfSome o (λ held. (rest : Taken) × (input_of (held name) ≡ before lines rest))
-    → (more : List (List ℕ)) × IfSome o (λ held. Took WriteFault (held name) (lines ++ more))
-all-first None name lines is = ([], tt)
-all-first (Some held) name lines is =
+pub all-first : (o : Option Held) (input : Held → Option (List ℕ)) (lines : List (List ℕ)) → IfSome o (λ held. (rest : Taken) × (input_of (input held) ≡ before lines rest))
+    → (more : List (List ℕ)) × IfSome o (λ held. Took WriteFault (input held) (lines ++ more))
+all-first None input lines is = ([], tt)
+all-first (Some held) input lines is =
     let h = in_lines is.0 in
-    let at : (t : Taken) → is.0 ≡ before h.0 t → input_of (held name) ≡ before (lines ++ h.0) t = λ t e. is.1 ∙ (ap (before lines) e ∙ sym (before-append lines h.0 t)) in
+    let at : (t : Taken) → is.0 ≡ before h.0 t → input_of (input held) ≡ before (lines ++ h.0) t = λ t e. is.1 ∙ (ap (before lines) e ∙ sym (before-append lines h.0 t)) in
     (h.0, elim h.1 [ inl e ↦ inl (at ended e) | inr e ↦ inr (at too_long e) ])

@@ -11,18 +11,18 @@ use Rattle.tele_io.proofs.Tells.{told-itself, told-into, told-then}
 use Rattle.export_sink.specs.Files.{FileText, HoldFronts, OnlyThese}
 use Rattle.collector.specs.Payload.{judged}
 use Rattle.collector.specs.Devices.{Devices, devices}
-use Rattle.collector.specs.Meaning.{Meaning}
+use Rattle.collector.specs.Meaning.{Meaning, under}
 use Rattle.collector.specs.Ends.{before, input_of, GrewBy, Same, Runs}
 use Rattle.collector.specs.Pass.{text_of_line, pass_text, pass_notes, count_accepted, count_refused, summary_by, pass_meaning}
 use Rattle.collector.specs.Between.{Stands, start, HoldAndGather, Completes}
-use Rattle.collector.specs.Lines.{Adding, Tally, Step, Holds, HoldsSome, LineText, LineNote, Counts, LineCounts, stop_of, status_of}
+use Rattle.collector.specs.Lines.{Adding, Tally, Step, Holds, HoldsSome, LineText, LineNote, Counts, LineCounts, StopsAt, stop_of, status_of}
 use Rattle.collector.specs.declared.stop.Stop.{Stop}
 use Rattle.collector.specs.declared.stop.Stop.TheVariants as stop
 use Rattle.collector.specs.declared.status.Status.TheVariants.{WriteFault, NoMemory}
 use Rattle.collector.proofs.InputLemmas.{if-then, all-first}
 use Rattle.collector.proofs.LineLemmas.{front-flush, text-next, notes-next, notes-some, notes-broken, count_accepted-append, count_refused-append, counts-length}
 use Rattle.collector.proofs.AnyMeaning.{runs-broken, ends-between}
-use Rattle.collector.proofs.Going.{Left, Going, between, going-begins, going-takes, going-read, next_left, first_lines, lines-complete, lines-stop}
+use Rattle.collector.proofs.Going.{Left, Going, stops-at, between, going-begins, going-takes, going-read, next_left, first_lines, lines-complete, lines-stop}
 
 -- The run stands behind the lines that are done, the reader in the input too, and the tally is theirs.
 pub record PassGoing (name output : List ℕ) (begun now : Devices) (mark : Mark) (tally : Tally) : Type 0 where
@@ -37,7 +37,7 @@ module _ (name output : List ℕ) (begun : Devices) where
   pub pass-begins : (now : Devices) (mark : Mark) (tally : Tally) → mark ≡ start_of name → tally.gathered ≡ [] → tally.accepted ≡ 0 → tally.refused ≡ 0 → Stands m (start ([] ∷ [])) begun now
       → PassGoing name output begun now mark tally
   pass-begins now mark tally at none no_accepted no_refused s = record {
-    going = going-begins m (tally.gathered ∷ []) begun now mark at (subst (λ (gathered : List ℕ). Stands m (start (gathered ∷ [])) begun now) (sym none) s);
+    going = going-begins m (tally.gathered ∷ []) begun now mark name at (subst (λ (gathered : List ℕ). Stands m (start (gathered ∷ [])) begun now) (sym none) s);
     accepted_is = no_accepted;
     refused_is = no_refused;
   }
@@ -49,7 +49,8 @@ module _ (name output : List ℕ) (begun : Devices) where
         → Reads fault (λ held. IsAhead (held mark.name) mark → TakesLine (held mark.name) mark new r) disk new_disk
         → IfSome begun.disk.held (λ held. TakesLine (held name) mark new r)
     pass-takes fault disk new_disk out notes new r apart named pass read =
-        going-takes m (tally.gathered ∷ []) begun mark fault disk new_disk out notes new r (λ done. (apart, tt)) named pass.going read
+        going-takes m (tally.gathered ∷ []) begun mark (λ file. TakesLine file mark new r) (λ held. held mark.name) (λ held. ap held named) fault disk new_disk out notes
+        (λ done was now only. only name (apart, tt)) pass.going read
 
     -- and changes nothing else
     pub pass-read : {P : Held → Type 0} (fault : Bool) (disk new_disk : DiskView) (out notes : SinkView) → PassGoing name output begun (devices disk out notes) mark tally → Reads fault P disk new_disk
@@ -131,7 +132,7 @@ module _ (name output : List ℕ) (begun : Devices) where
           → ((more : List (List ℕ)) → Told (GrewByFront (pass_notes 1 (lines ++ more))) begun.notes.held new_notes.held)
           → Runs m begun (devices new_disk out new_notes) WriteFault
       broken lines bytes left_over new_disk new_notes taken is text note =
-          let all = all-first begun.disk.held name lines taken in
+          let all = all-first begun.disk.held (under name) lines taken in
           runs-broken m begun (devices new_disk out new_notes) (lines ++ all.0) all.1
           (told-then {T = HoldFronts (m.texts (lines ++ all.0)).files} _ _ _ going.stands.files text
           (λ x y z w h. let t = h.holds w.0.0 w.0.1 in inl (record { front = w.0.0 ++ t.0; holds = t.1; of_text = front-flush lines all.0 w.0.0 bytes t.0 (is w.0.0 w.0.2) t.2 }, tt)))
@@ -189,4 +190,5 @@ module _ (name output : List ℕ) (begun : Devices) where
           → Told (Holds (added after)) disk.held new_disk.held → after ≡ []
           → Runs m begun (devices new_disk out notes) (status_of (stop_of e))
       stop-ends Z e new after new_disk taken text emptied =
-          lines-stop m (tally.gathered ∷ []) begun mark (devices disk out notes) going Z e new ([] ∷ []) _ taken (refl, tt) (appended after new_disk emptied text)
+          lines-stop m (tally.gathered ∷ []) begun mark (devices disk out notes) going e ([] ∷ []) _
+          (if-then {R = λ held. StopsAt (held name) mark e} begun.disk.held taken (λ held t. stops-at {Z = Z} (held name) mark new e t)) (refl, tt) (appended after new_disk emptied text)

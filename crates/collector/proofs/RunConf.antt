@@ -54,14 +54,14 @@ any-names : (es : List Exporter) (text : Exporter → List ℕ) (name : List ℕ
 any-names [] text name none = tt
 any-names (e ∷ es) text name none = (none.0, any-names es text name none.1)
 
-module _ (conf : Conf) (input : List ℕ) (disk new_disk : DiskView) (out notes : SinkView) where
+module _ (conf : Conf) (input : Held → Option (List ℕ)) (disk new_disk : DiskView) (out notes : SinkView) where
   -- all files were created
   pub run-created : (es : List Exporter) → es ≡ conf.meant.draft.exporters → Writes false (Creates {T = Unit {0}} {E = DiskFault} (empty_files es) (Ok tt)) disk new_disk
       → Stands (run_meaning conf input) (start (nothing_gathered conf)) (devices disk out notes) (devices new_disk out notes)
   run-created es is made =
       let create = subst (λ (xs : List Exporter). Writes false (Creates {T = Unit {0}} {E = DiskFault} (empty_files xs) (Ok tt)) disk new_disk) is made in
       record {
-        input = if-some (λ held. (rest : Taken) × (input_of (held input) ≡ rest)) disk.held (λ held. (input_of (held input), refl));
+        input = if-some (λ held. (rest : Taken) × (input_of (input held) ≡ rest)) disk.held (λ held. (input_of (input held), refl));
         files = told-into disk.held new_disk.held create.told (λ was now c. gathers-none conf.meant.draft.exporters (λ e. []) now c.0);
         others = told-into disk.held new_disk.held create.told (λ was now c. c.1);
         notes = told-itself (GrewBy []) notes.held (λ b. sym (append-nil b));
@@ -73,7 +73,7 @@ module _ (conf : Conf) (input : List ℕ) (disk new_disk : DiskView) (out notes 
       → Runs (run_meaning conf input) (devices disk out notes) (devices new_disk out notes) WriteFault
   run-uncreated named is fault made =
       let create = subst (λ (xs : List Exporter). Writes true (Creates {T = Unit {0}} {E = DiskFault} (empty_files xs) (Err fault)) disk new_disk) is made in
-      let all = all-first disk.held input [] (if-some (λ held. (rest : Taken) × (input_of (held input) ≡ rest)) disk.held (λ held. (input_of (held input), refl))) in
+      let all = all-first disk.held input [] (if-some (λ held. (rest : Taken) × (input_of (input held) ≡ rest)) disk.held (λ held. (input_of (input held), refl))) in
       let es = conf.meant.draft.exporters in
       record {
         lines = all.0;
@@ -89,10 +89,14 @@ module _ (conf : Conf) (input : List ℕ) (disk new_disk : DiskView) (out notes 
 
 -- A run that begins after a read begins before it.
 
-taken-before : (m : Meaning) (status : Status) (lines : List (List ℕ)) (a b : Option Held) → Told SameHeld a b → IfSome b (λ held. Took status (held m.input) lines) → IfSome a (λ held. Took status (held m.input) lines)
-taken-before m status lines None b same t = tt
-taken-before m status lines (Some x) None same t = absurd same
-taken-before m status lines (Some x) (Some y) same t = subst (λ (f : Option (List ℕ)). Took status f lines) (same m.input) t
+-- what is the same stands in the same
+abbrev pub KeepsSame : (Held → Option (List ℕ)) → Type 0
+KeepsSame input = (was now : Held) → SameHeld was now → input now ≡ input was
+
+taken-before : (m : Meaning) → KeepsSame m.input → (status : Status) (lines : List (List ℕ)) (a b : Option Held) → Told SameHeld a b → IfSome b (λ held. Took status (m.input held) lines) → IfSome a (λ held. Took status (m.input held) lines)
+taken-before m keeps status lines None b same t = tt
+taken-before m keeps status lines (Some x) None same t = absurd same
+taken-before m keeps status lines (Some x) (Some y) same t = subst (λ (f : Option (List ℕ)). Took status f lines) (keeps x y same) t
 
 stay-before : (files : List FileText) (x y z : Held) → SameHeld x y → FilesStay files y z → FilesStay files x z
 stay-before [] x y z same s = tt
@@ -132,10 +136,10 @@ module _ (texts : Texts) (disk mid : DiskView) (out notes : SinkView) (new : Dev
   leaves-before Usage l = absurd l
   leaves-before BadConf l = absurd l
 
-runs-before : (m : Meaning) (disk mid : DiskView) (out notes : SinkView) (new : Devices) (status : Status) → Told SameHeld disk.held mid.held → Runs m (devices mid out notes) new status → Runs m (devices disk out notes) new status
-runs-before m disk mid out notes new status same r = record {
+runs-before : (m : Meaning) → KeepsSame m.input → (disk mid : DiskView) (out notes : SinkView) (new : Devices) (status : Status) → Told SameHeld disk.held mid.held → Runs m (devices mid out notes) new status → Runs m (devices disk out notes) new status
+runs-before m keeps disk mid out notes new status same r = record {
   lines = r.lines;
-  taken = taken-before m status r.lines disk.held mid.held same r.taken;
+  taken = taken-before m keeps status r.lines disk.held mid.held same r.taken;
   refused = r.refused;
   leaves = leaves-before (m.texts r.lines) disk mid out notes new same status r.leaves;
   others = told-then {T = OnlyThese (m.texts r.lines).files} disk.held mid.held new.disk.held same r.others (λ x y z s o name none. o name none ∙ s name);
@@ -193,22 +197,22 @@ module _ (conf : List ℕ) (disk new_disk : DiskView) (out notes : SinkView) whe
     told-beside _ new_out new_notes fault t = absurd t
 
     -- its fault was told
-    pub judged-fault : (input note : List ℕ) (fault : ConfFault) (before after : ℕ) (new_out new_notes : SinkView) (status : Status) → note ≡ note_of fault
-        → (runnable (input ∷ conf ∷ []) v.items ≡ Err fault) ⊎ (IsSize fault.inner × Rose before after)
+    pub judged-fault : (names : List (List ℕ)) (input : Held → Option (List ℕ)) (note : List ℕ) (fault : ConfFault) (before after : ℕ) (new_out new_notes : SinkView) (status : Status) → note ≡ note_of fault
+        → (runnable names v.items ≡ Err fault) ⊎ (IsSize fault.inner × Rose before after)
         → ((d : DiskView) → Tells status (Err note) (devices d out notes) (devices d new_out new_notes))
-        → Judged conf input (lent (devices disk out notes) before) (lent (devices new_disk new_out new_notes) after) status
-    judged-fault input note fault before after new_out new_notes status is faulty tells = record {
+        → Judged names input conf (lent (devices disk out notes) before) (lent (devices new_disk new_out new_notes) after) status
+    judged-fault names input note fault before after new_out new_notes status is faulty tells = record {
       bytes = v.items;
       found = found;
       ends = inl (record { fault = fault; is = faulty; tells = told-beside status new_out new_notes fault (subst (λ (n : List ℕ). Tells status (Err n) (devices new_disk out notes) (devices new_disk new_out new_notes)) is (tells new_disk)); files = files });
     }
 
     -- it was run
-    pub judged-run : (input : List ℕ) (before after : ℕ) (new : Devices) (status : Status) → IsOk (runnable (input ∷ conf ∷ []) v.items) → after ≡ before
+    pub judged-run : (names : List (List ℕ)) (input : Held → Option (List ℕ)) → KeepsSame input → (before after : ℕ) (new : Devices) (status : Status) → IsOk (runnable names v.items) → after ≡ before
         → IfOk (conf_of v.items) (λ meant. Runs (run_meaning meant input) (devices new_disk out notes) new status)
-        → Judged conf input (lent (devices disk out notes) before) (lent new after) status
-    judged-run input before after new status ok same runs =
-        let may = may-run (input ∷ conf ∷ []) v.items ok in
+        → Judged names input conf (lent (devices disk out notes) before) (lent new after) status
+    judged-run names input keeps before after new status ok same runs =
+        let may = may-run names v.items ok in
         record {
           bytes = v.items;
           found = found;
@@ -216,6 +220,6 @@ module _ (conf : List ℕ) (disk new_disk : DiskView) (out notes : SinkView) whe
             conf = may.conf;
             is = may.runs;
             refusals = same;
-            runs = runs-before (run_meaning may.conf input) disk new_disk out notes new status files (subst (λ (r : Result Conf ConfFault). IfOk r (λ meant. Runs (run_meaning meant input) (devices new_disk out notes) new status)) may.is runs);
+            runs = runs-before (run_meaning may.conf input) keeps disk new_disk out notes new status files (subst (λ (r : Result Conf ConfFault). IfOk r (λ meant. Runs (run_meaning meant input) (devices new_disk out notes) new status)) may.is runs);
           });
         }

@@ -1,5 +1,5 @@
 -- What stands before each line of `run`, from line to line and at each end.
-use Rattle.std.proofs.Common.{◌≡◌, ◌∙◌, ◌+◌, ◌++◌, [], ◌∷◌, List, ℕ, Bool, Some, None, IfSome, Ok, Err, Vec, length, length-append, map, ap, sym, refl, inl, subst, arith, append_assoc, append-nil}
+use Rattle.std.proofs.Common.{◌≡◌, ◌∙◌, ◌+◌, ◌++◌, [], ◌∷◌, List, ℕ, Bool, Option, Some, None, IfSome, Result, Ok, Err, Vec, length, length-append, map, ap, sym, refl, inl, subst, arith, append_assoc, append-nil}
 use Rattle.contract_words.specs.Fronts.{GrewByFront}
 use Rattle.contract_words.specs.Held.{Held, SameHeld}
 use Rattle.contract_words.specs.InputLines.{Taken}
@@ -13,7 +13,7 @@ use Rattle.leg_model.specs.Sums.{plus_totals}
 use Rattle.leg_model.specs.Totals.{totals_of, totals_text}
 use Rattle.leg_model.specs.declared.Totals.{Totals}
 use Rattle.leg_model.proofs.Growing.{alone-append, notes_from-append, totals_of-append}
-use Rattle.tele_io.specs.Mark.{Mark, left, start_of}
+use Rattle.tele_io.specs.Mark.{IsAhead, Mark, left, start_of}
 use Rattle.tele_io.specs.Reading.{TakesLine}
 use Rattle.tele_io.specs.Views.{Told, DiskView, SinkView, Reads}
 use Rattle.tele_io.specs.declared.lines.LineStop.{LineStop}
@@ -22,15 +22,16 @@ use Rattle.collector.specs.Between.{HoldAndGather, Stands, start, Completes}
 use Rattle.collector.specs.Configured.{files_of, run_meaning}
 use Rattle.collector.specs.Devices.{Devices, devices}
 use Rattle.collector.specs.Ends.{before, input_of, GrewBy, Same, Runs}
-use Rattle.collector.specs.Lines.{status_of, stop_of}
+use Rattle.collector.specs.Lines.{StopsAt, status_of, stop_of}
 use Rattle.collector.specs.Meaning.{Meaning}
 use Rattle.collector.specs.RunLines.{ApartFrom, EndsLine, LineNotes, LineTexts, nothing_gathered}
+use Rattle.collector.specs.Source.{FindsLine}
 use Rattle.collector.specs.declared.stop.Stop.{Stop}
 use Rattle.collector.specs.declared.stop.Stop.TheVariants as stop
 use Rattle.collector.specs.declared.status.Status.TheVariants.{NoMemory}
 use Rattle.collector.proofs.AnyMeaning.{NoneGathered, ends-between, gather_stays, runs-broken}
 use Rattle.collector.proofs.Apart.{no-file-texts}
-use Rattle.collector.proofs.Going.{Going, ReadsApart, between, going-begins, going-read, next_left, lines-complete, lines-stop}
+use Rattle.collector.proofs.Going.{Going, ReadsApart, between, going-begins, going-read, going-takes, next_left, lines-complete, lines-stop}
 use Rattle.collector.proofs.InputLemmas.{if-then, all-first}
 
 -- files with these texts
@@ -93,21 +94,21 @@ other-texts name [] text other none = tt
 other-texts name (e ∷ es) text other none = (none.0, other-texts name es text other none.1)
 
 -- The run stands behind the lines that are done, and they are counted.
-pub record RunGoing (conf : Conf) (input : List ℕ) (begun now : Devices) (mark : Mark) (payloads : ℕ) (totals : Totals) : Type 0 where
+pub record RunGoing (conf : Conf) (input : Held → Option (List ℕ)) (begun now : Devices) (mark : Mark) (payloads : ℕ) (totals : Totals) : Type 0 where
   pub going : Going (run_meaning conf input) (nothing_gathered conf) begun now mark
   pub payloads_are : payloads ≡ length going.done
   pub totals_are : totals ≡ totals_of conf going.done
 
-pub run-begins : (conf : Conf) (input : List ℕ) (begun now : Devices) (mark : Mark) (payloads : ℕ) (totals : Totals) → mark ≡ start_of input → payloads ≡ 0 → totals ≡ totals_of conf []
+pub run-begins : (conf : Conf) (input : Held → Option (List ℕ)) (begun now : Devices) (mark : Mark) (name : List ℕ) (payloads : ℕ) (totals : Totals) → mark ≡ start_of name → payloads ≡ 0 → totals ≡ totals_of conf []
     → Stands (run_meaning conf input) (start (nothing_gathered conf)) begun now → RunGoing conf input begun now mark payloads totals
-run-begins conf input begun now mark payloads totals at none no_totals stands = record {
-  going = going-begins (run_meaning conf input) (nothing_gathered conf) begun now mark at stands;
+run-begins conf input begun now mark name payloads totals at none no_totals stands = record {
+  going = going-begins (run_meaning conf input) (nothing_gathered conf) begun now mark name at stands;
   payloads_are = none;
   totals_are = no_totals;
 }
 
 -- a read changes nothing of it
-pub run-read : {P : Held → Type 0} (conf : Conf) (input : List ℕ) (begun : Devices) (mark : Mark) (payloads : ℕ) (totals : Totals) (fault : Bool) (disk new_disk : DiskView) (out notes : SinkView)
+pub run-read : {P : Held → Type 0} (conf : Conf) (input : Held → Option (List ℕ)) (begun : Devices) (mark : Mark) (payloads : ℕ) (totals : Totals) (fault : Bool) (disk new_disk : DiskView) (out notes : SinkView)
     → RunGoing conf input begun (devices disk out notes) mark payloads totals → Reads fault P disk new_disk → RunGoing conf input begun (devices new_disk out notes) mark payloads totals
 run-read conf input begun mark payloads totals fault disk new_disk out notes run read = record {
   going = going-read (run_meaning conf input) (nothing_gathered conf) begun mark fault disk new_disk out notes run.going read;
@@ -115,7 +116,7 @@ run-read conf input begun mark payloads totals fault disk new_disk out notes run
   totals_are = run.totals_are;
 }
 
-module _ (conf : Conf) (input : List ℕ) (apart : ApartFrom input conf) where
+module _ (conf : Conf) (input : Held → Option (List ℕ)) (apart : ApartFrom input conf) where
   abbrev es : List Exporter
   es = conf.meant.draft.exporters
 
@@ -127,7 +128,7 @@ module _ (conf : Conf) (input : List ℕ) (apart : ApartFrom input conf) where
   gets lines e = alone conf e.name lines
 
   pub reads-apart : ReadsApart m
-  reads-apart done = no-file-texts input es (gets done) apart.unread
+  reads-apart done was now only = apart.unread was now (λ name none. only name (no-file-texts name es (gets done) none))
 
   -- the files of lines joined
   files-joined : (done more : List (List ℕ)) → files_of conf (done ++ more) ≡ with_texts es (λ e. gets done e ++ gets more e)
@@ -185,7 +186,7 @@ module _ (conf : Conf) (input : List ℕ) (apart : ApartFrom input conf) where
 
     -- a line was taken, and what it gives was written
     pub run-on : {Z : Type 0} (l : List ℕ) (v : Vec ℕ Z) (new : Mark) (new_disk : DiskView) (new_notes : SinkView) (more_payloads : ℕ) (more : Totals) → l ≡ v.items
-        → IfSome begun.disk.held (λ held. TakesLine (held input) mark new (Ok (Some v)))
+        → IfSome begun.disk.held (λ held. TakesLine (input held) mark new (Ok (Some v)))
         → Told (LineTexts {T = Unit {0}} (files_of conf (l ∷ [])) (Ok tt)) disk.held new_disk.held
         → Told (LineNotes {T = Unit {0}} (notes_from conf (payloads + 1) (l ∷ [])) (Ok tt)) notes.held new_notes.held
         → more_payloads ≡ payloads + 1 → more ≡ plus_totals totals (totals_of conf (l ∷ []))
@@ -197,8 +198,8 @@ module _ (conf : Conf) (input : List ℕ) (apart : ApartFrom input conf) where
           going = record {
             done = lines;
             stands = record {
-              input = if-then {R = λ held. (rest : Taken) × (input_of (held input) ≡ before (lines ++ []) rest)} begun.disk.held next
-                  (λ held n. (left (held input) new, n.is ∙ ap (λ (ls : List (List ℕ)). before ls (left (held input) new)) (sym (append-nil lines))));
+              input = if-then {R = λ held. (rest : Taken) × (input_of (input held) ≡ before (lines ++ []) rest)} begun.disk.held next
+                  (λ held n. (left (input held) new, n.is ∙ ap (λ (ls : List (List ℕ)). before ls (left (input held) new)) (sym (append-nil lines))));
               files = told-then {T = λ was now. HoldAndGather (files_of conf lines) none now} begun.disk.held disk.held new_disk.held run.going.stands.files texts
                   (λ x y z h c. subst (λ (fs : List FileText). HoldAndGather fs none z) (sym (files-joined done (l ∷ []))) (holds-on es (gets done) (gets (l ∷ [])) y z h c.each));
               others = others-then (l ∷ []) new_disk (told-into {T = OnlyThese (files_of conf (l ∷ []))} disk.held new_disk.held texts (λ x y c. c.others)) lines;
@@ -223,7 +224,7 @@ module _ (conf : Conf) (input : List ℕ) (apart : ApartFrom input conf) where
 
     -- a line stopped the run
     pub run-line-ends : {Z : Type 0} (e : Stop) (l : List ℕ) (v : Vec ℕ Z) (new : Mark) (new_disk : DiskView) (new_notes : SinkView) → l ≡ v.items
-        → IfSome begun.disk.held (λ held. TakesLine (held input) mark new (Ok (Some v)))
+        → IfSome begun.disk.held (λ held. TakesLine (input held) mark new (Ok (Some v)))
         → Told (LineTexts {T = Unit {0}} (files_of conf (l ∷ [])) (Err e)) disk.held new_disk.held
         → Told (LineNotes {T = Unit {0}} (notes_from conf (payloads + 1) (l ∷ [])) (Err e)) notes.held new_notes.held
         → EndsLine {T = Unit {0}} (Err e)
@@ -231,7 +232,7 @@ module _ (conf : Conf) (input : List ℕ) (apart : ApartFrom input conf) where
     run-line-ends stop.WriteFault l v new new_disk new_notes same taken texts note ends =
         let next = next_left m none begun mark (devices disk out notes) run.going l v new same taken in
         let lines = done ++ l ∷ [] in
-        let all = all-first begun.disk.held input lines (if-then {R = λ held. (rest : Taken) × (input_of (held input) ≡ before lines rest)} begun.disk.held next (λ held n. (left (held input) new, n.is))) in
+        let all = all-first begun.disk.held input lines (if-then {R = λ held. (rest : Taken) × (input_of (input held) ≡ before lines rest)} begun.disk.held next (λ held n. (left (input held) new, n.is))) in
         runs-broken m begun (devices new_disk out new_notes) (lines ++ all.0) all.1
         (told-then {T = HoldFronts (files_of conf (lines ++ all.0))} begun.disk.held disk.held new_disk.held run.going.stands.files texts
         (λ x y z h c. subst (λ (fs : List FileText). HoldFronts fs x z) (sym (files-thrice done (l ∷ []) all.0)) (holds-some es (gets done) (gets (l ∷ [])) (gets all.0) x y z h c.each)))
@@ -243,13 +244,23 @@ module _ (conf : Conf) (input : List ℕ) (apart : ApartFrom input conf) where
     run-line-ends _ l v new new_disk new_notes same taken texts note ends = absurd ends
 
     -- the lines ended
-    pub run-completes : (Z : Type 0) (new : Mark) → IfSome begun.disk.held (λ held. TakesLine {Z = Z} (held input) mark new (Ok None))
+    pub run-completes : (Z : Type 0) (new : Mark) → IfSome begun.disk.held (λ held. TakesLine {Z = Z} (input held) mark new (Ok None))
         → Completes m (totals_text conf totals) totals.refused begun (devices disk out notes)
     run-completes Z new taken =
         lines-complete m none begun mark (devices disk out notes) run.going Z new none (devices disk out notes) taken (nothing-is-gathered conf) run.going.stands _ _
         (ap (totals_text conf) run.totals_are) (ap (λ (t : Totals). t.refused) run.totals_are)
 
     -- no line came
-    pub run-stops : (Z : Type 0) (e : LineStop) (new : Mark) → IfSome begun.disk.held (λ held. TakesLine {Z = Z} (held input) mark new (Err e))
+    pub run-stops : (e : LineStop) → IfSome begun.disk.held (λ held. StopsAt (input held) mark e)
         → Runs m begun (devices disk out notes) (status_of (stop_of e))
-    run-stops Z e new taken = lines-stop m none begun mark (devices disk out notes) run.going Z e new none (devices disk out notes) taken (nothing-is-gathered conf) run.going.stands
+    run-stops e taken = lines-stop m none begun mark (devices disk out notes) run.going e none (devices disk out notes) taken (nothing-is-gathered conf) run.going.stands
+
+-- what a read took stood in the input as it was at the beginning
+pub run-takes : {Z : Type 0} (conf : Conf) (input : Held → Option (List ℕ)) → ApartFrom input conf → (begun : Devices) (mark new : Mark) (r : Result (Option (Vec ℕ Z)) LineStop) (payloads : ℕ) (totals : Totals)
+    (source : Held → Option (List ℕ)) → ((held : Held) → source held ≡ input held) → (fault : Bool) (disk new_disk : DiskView) (out notes : SinkView)
+    → RunGoing conf input begun (devices disk out notes) mark payloads totals
+    → Reads fault (λ held. IsAhead (source held) mark → FindsLine (source held) mark new r) disk new_disk
+    → IfSome begun.disk.held (λ held. FindsLine (input held) mark new r)
+run-takes conf input apart begun mark new r payloads totals source same fault disk new_disk out notes run read =
+    going-takes (run_meaning conf input) (nothing_gathered conf) begun mark (λ file. FindsLine file mark new r) source same fault disk new_disk out notes
+    (reads-apart conf input apart) run.going read

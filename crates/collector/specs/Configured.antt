@@ -1,7 +1,7 @@
 -- What `run` makes of a configuration and of the lines of an input.
-use Rattle.std.specs.Prelude.{◌≡◌, ◌⊎◌, ℕ, List, [], ◌∷◌, map, Option, Some, IfSome, Result, Ok, Err}
+use Rattle.std.specs.Prelude.{◌≡◌, ◌⊎◌, ℕ, List, map, Option, Some, IfSome, Result, Ok, Err}
 use Rattle.contract_words.specs.Causes.{Rose}
-use Rattle.contract_words.specs.Held.{SameHeld}
+use Rattle.contract_words.specs.Held.{Held, SameHeld}
 use Rattle.conf_draft.specs.Limits.{files_fault}
 use Rattle.conf_json.specs.Fault.{lifted, ◌>>=◌}
 use Rattle.conf_json.specs.Plans.{IsSize}
@@ -13,6 +13,7 @@ use Rattle.graph_build.specs.Conf.{Conf, conf_of}
 use Rattle.leg_model.specs.Exports.{alone}
 use Rattle.leg_model.specs.Notes.{notes_from}
 use Rattle.leg_model.specs.Totals.{refused, summary}
+use Rattle.load_gen.specs.Payloads.{payloads}
 use Rattle.run_texts.specs.Fault.{note_of}
 use Rattle.tele_io.specs.Views.{Told}
 use Rattle.tele_io.specs.Whole.{IsLonger}
@@ -40,9 +41,13 @@ run_texts conf lines = record {
   refused = refused lines;
 }
 
--- the meaning of a run of this configuration over the input with that name
-abbrev pub run_meaning : Conf → List ℕ → Meaning
+-- the meaning of a run of this configuration over what the lines stand in
+abbrev pub run_meaning : Conf → (Held → Option (List ℕ)) → Meaning
 run_meaning conf input = record { input = input; texts = run_texts conf }
+
+-- the payloads that are made from a seed, whatever the disk holds
+abbrev pub made : ℕ → ℕ → Held → Option (List ℕ)
+made seed count = λ held. Some (payloads seed count)
 
 -- a status before the configuration is judged: it couldn't be read, is too long, or memory ran out
 abbrev pub IsEarly : Status → Type 0
@@ -72,21 +77,24 @@ pub record TellsFault (judged : Result Conf ConfFault) (old new : Lent) (status 
   pub files : Told SameHeld old.devices.disk.held new.devices.disk.held
 
 -- it has no fault, and what it means was run
-pub record RunsMeant (judged : Result Conf ConfFault) (input : List ℕ) (old new : Lent)
-    (status : Status) : Type 0 where
+pub record RunsMeant (judged : Result Conf ConfFault) (input : Held → Option (List ℕ))
+    (old new : Lent) (status : Status) : Type 0 where
   pub conf : Conf
   pub is : judged ≡ Ok conf
   pub refusals : new.refusals ≡ old.refusals
   pub runs : Runs (run_meaning conf input) old.devices new.devices status
 
--- the configuration was read and judged
-pub record Judged (conf input : List ℕ) (old new : Lent) (status : Status) : Type 0 where
+-- the configuration was read and judged, with these names that no exporter may write to
+pub record Judged (names : List (List ℕ)) (input : Held → Option (List ℕ)) (conf : List ℕ)
+    (old new : Lent) (status : Status) : Type 0 where
   pub bytes : List ℕ
   pub found : IfSome old.devices.disk.held (λ held. held conf ≡ Some bytes)
-  pub ends : TellsFault (runnable (input ∷ conf ∷ []) bytes) old new status
-      ⊎ RunsMeant (runnable (input ∷ conf ∷ []) bytes) input old new status
+  pub ends : TellsFault (runnable names bytes) old new status
+      ⊎ RunsMeant (runnable names bytes) input old new status
 
--- A run of a configuration over an input took what it was lent from old to new, and ended so.
-abbrev pub RunsConf : List ℕ → List ℕ → Lent → Lent → Status → Type 0
-RunsConf conf input old new status =
-    Unjudged conf old new status ⊎ Judged conf input old new status
+-- A run of the configuration with that name over what the lines stand in, whose exporters may write
+-- to none of these names, took what it was lent from old to new, and ended so.
+abbrev pub RunsConf : List (List ℕ) → (Held → Option (List ℕ)) → List ℕ → Lent → Lent → Status
+    → Type 0
+RunsConf names input conf old new status =
+    Unjudged conf old new status ⊎ Judged names input conf old new status

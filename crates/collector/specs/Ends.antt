@@ -100,7 +100,7 @@ Leaves BadConf texts old new = ⊥
 pub record Runs (m : Meaning) (old new : Devices) (status : Status) : Type 0 where
   -- the lines that were taken of the input, where the disk tells it
   pub lines : List (List ℕ)
-  pub taken : IfSome old.disk.held (λ held. Took status (held m.input) lines)
+  pub taken : IfSome old.disk.held (λ held. Took status (m.input held) lines)
   pub refused : Refuses status (m.texts lines).refused
   pub leaves : Leaves status (m.texts lines) old new
   pub others : Told (OnlyThese (m.texts lines).files) old.disk.held new.disk.held

@@ -14,3 +14,4 @@ pub mod Judged
 pub mod Between
 pub mod Lines
 pub mod RunLines
+pub mod Source

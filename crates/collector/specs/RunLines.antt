@@ -1,12 +1,12 @@
 -- Inside `run`: what one line does, and what it needs.
-use Rattle.std.specs.Prelude.{◌≡◌, ◌⊎◌, ℕ, List, [], map, Result, Ok, Err, IsOk, ⊤}
+use Rattle.std.specs.Prelude.{◌≡◌, ◌⊎◌, ℕ, List, [], map, Option, Result, Ok, Err, IsOk, ⊤}
 use Rattle.contract_words.specs.Causes.{Rose}
 use Rattle.contract_words.specs.Fronts.{GrewByFront}
 use Rattle.contract_words.specs.Held.{Held, SameHeld}
 use Rattle.conf_json.specs.Plans.{IsSize}
 use Rattle.conf_json.specs.declared.fault.ConfStop.{ConfStop}
 use Rattle.conf_json.specs.declared.fault.ConfStop.TheVariants as conf_stop
-use Rattle.export_sink.specs.Files.{FileText, AreApart, IsNoFile, Changed, AddsText, AddsSome}
+use Rattle.export_sink.specs.Files.{FileText, AreApart, OnlyThese, Changed, AddsText, AddsSome}
 use Rattle.export_sink.specs.Writing.{empty_files}
 use Rattle.graph_build.specs.Conf.{Conf}
 use Rattle.collector.specs.Configured.{runnable}
@@ -14,10 +14,14 @@ use Rattle.collector.specs.Ends.{GrewBy, Same}
 use Rattle.collector.specs.declared.stop.Stop.{Stop}
 use Rattle.collector.specs.declared.stop.Stop.TheVariants as stop
 
--- the exporters write to files of their own, and none to the input
-pub record ApartFrom (input : List ℕ) (conf : Conf) : Type 0 where
+-- writes to these files leave the input
+abbrev pub StaysFrom : (Held → Option (List ℕ)) → List FileText → Type 0
+StaysFrom input files = (was now : Held) → OnlyThese files was now → input now ≡ input was
+
+-- the exporters write to files of their own, and leave the input
+pub record ApartFrom (input : Held → Option (List ℕ)) (conf : Conf) : Type 0 where
   pub own : AreApart (empty_files conf.meant.draft.exporters)
-  pub unread : IsNoFile input (empty_files conf.meant.draft.exporters)
+  pub unread : StaysFrom input (empty_files conf.meant.draft.exporters)
 
 -- nothing is gathered for any exporter
 abbrev pub nothing_gathered : Conf → List (List ℕ)

@@ -8,20 +8,25 @@ ghost use Rattle.graph_build.specs.Conf.{conf_of};
 ghost use Rattle.leg_model.specs.Notes.{notes_from};
 ghost use Rattle.leg_model.specs.Sums as sums;
 ghost use Rattle.leg_model.specs.Totals.{totals_of, totals_text};
-ghost use Rattle.tele_io.specs.Views.{DiskView, SinkView, Told};
+ghost use Rattle.tele_io.specs.Views.{SinkView, Told};
 ghost use Rattle.tele_io.specs.Mark.{start_of};
 ghost use Rattle.collector.specs.Between.{start, Stands, LinesEnd};
 ghost use Rattle.collector.specs.Check.{lent};
+ghost use Rattle.collector.specs.Configured as spec;
 ghost use Rattle.collector.specs.Configured.{RunsConf, files_of, run_meaning};
 ghost use Rattle.collector.specs.Devices.{Caused, Devices, devices};
 ghost use Rattle.collector.specs.Ends.{Runs};
 ghost use Rattle.collector.specs.Lines.{SumsUp, status_by};
+ghost use Rattle.collector.specs.Meaning.{under};
 ghost use Rattle.collector.specs.RunLines.{ApartFrom, EndsLine, LineNotes, LineTexts, Plans, nothing_gathered};
+ghost use Rattle.collector.specs.Source.{IsSafeFrom, text_in};
 
 use crate::check::{Said, tell};
 use crate::run::write_summary;
+use crate::source::Source;
 use crate::status::Status;
 use crate::stop::Stop;
+use crate::words::Making;
 use conf_draft::check_paths;
 use conf_json::{ConfStop, MAX_CONF};
 use export_sink::{
@@ -31,6 +36,8 @@ use export_sink::{
 use func_text::PatternMaker;
 use graph_build::{Plan, check_conf};
 use leg_model::Totals;
+use load_gen::MAX_PAYLOADS;
+use ottl_eval::KeptMatchers;
 use run_texts::fault_note;
 use std::alloc::Global;
 use tele_io::{Disk, Lines, Sink, read_all};
@@ -44,11 +51,12 @@ pub struct Counted {
 
 impl Counted {
     // Takes one line: writes what its payload gives, and counts it.
-    fn run_line<D: Disk, N: Sink>(
+    fn run_line<'p, D: Disk, N: Sink>(
         &mut self,
         alloc: Global,
-        plan: &RunPlan<'_>,
+        plan: &RunPlan<'p>,
         line: &[u8],
+        matchers: &mut KeptMatchers<'p>,
         disk: &mut D,
         notes: &mut N,
     ) -> Result<(), Stop>
@@ -70,7 +78,7 @@ impl Counted {
             (devices (D.seen disk.old) out (N.seen notes.old))
             (devices (D.seen disk.new) out (N.seen notes.new)) }
     {
-        let bundle = bundle_line(alloc, plan, self.payloads + 1, line)?;
+        let bundle = bundle_line(alloc, plan, self.payloads + 1, line, matchers)?;
         let totals = plus_totals(alloc, &self.totals, &bundle.totals)?;
         let exporters = plan.legs.draft.exporters.as_slice();
         match write_bundle(disk, notes, exporters, &bundle) {
@@ -88,6 +96,7 @@ impl Counted {
 fn run_lines<D: Disk, N: Sink>(
     alloc: Global,
     plan: &RunPlan<'_>,
+    source: &mut Source,
     lines: &mut Lines,
     counted: &mut Counted,
     disk: &mut D,
@@ -95,12 +104,13 @@ fn run_lines<D: Disk, N: Sink>(
 ) -> Result<(), Stop>
     requires first { lines.old ≡ start_of lines.old.name }
     requires fits { RunFits plan.now }
-    requires apart { ApartFrom lines.old.name (conf_in plan.now) }
+    requires apart { ApartFrom (text_in source.old lines.old.name) (conf_in plan.now) }
     requires fresh { (counted.old.payloads ≡ 0)
         × (counted.old.totals ≡ totals_of (conf_in plan.now) []) }
     // From where a run stands before its first line, whatever it began with and whatever the output
     // is.
-    ensures ends { let conf = conf_in plan.now in let m = run_meaning conf lines.old.name in
+    ensures ends { let conf = conf_in plan.now in
+        let m = run_meaning conf (text_in source.old lines.old.name) in
         (begun : Devices) (out : SinkView)
         → Stands m (start (nothing_gathered conf)) begun
         (devices (D.seen disk.old) out (N.seen notes.old))
@@ -111,12 +121,15 @@ fn run_lines<D: Disk, N: Sink>(
         (devices (D.seen disk.old) out (N.seen notes.old))
         (devices (D.seen disk.new) out (N.seen notes.new)) }
 {
+    let mut matchers = KeptMatchers::new(alloc);
     'lines: loop {
-        match lines.next(disk) {
-            Ok(Some(line)) => match counted.run_line(alloc, plan, line.as_slice(), disk, notes) {
-                Ok(()) => {}
-                Err(stop) => return Err(stop),
-            },
+        match source.next(lines, disk) {
+            Ok(Some(line)) => {
+                match counted.run_line(alloc, plan, line.as_slice(), &mut matchers, disk, notes) {
+                    Ok(()) => {}
+                    Err(stop) => return Err(stop),
+                }
+            }
             Ok(None) => return Ok(()),
             Err(stop) => return Err(Stop::from(stop)),
         }
@@ -134,25 +147,26 @@ fn sum_up<O: Sink>(alloc: Global, plan: &RunPlan<'_>, totals: &Totals, out: &mut
     }
 }
 
-// Runs a plan over the input with that name, which is no exporter's path.
+// Runs a plan over the lines under that name, to which no exporter writes.
 fn run_plan<D: Disk, O: Sink, N: Sink>(
     alloc: Global,
     plan: &RunPlan<'_>,
-    input: &str,
+    name: &str,
+    source: &mut Source,
     disk: &mut D,
     out: &mut O,
     notes: &mut N,
 ) -> Status
     requires fits { RunFits plan.now }
-    requires apart { ApartFrom input.now (conf_in plan.now) }
-    ensures runs { Runs (run_meaning (conf_in plan.now) input.now)
+    requires apart { ApartFrom (text_in source.old name.now) (conf_in plan.now) }
+    ensures runs { Runs (run_meaning (conf_in plan.now) (text_in source.old name.now))
         (devices (D.seen disk.old) (O.seen out.old) (N.seen notes.old))
         (devices (D.seen disk.new) (O.seen out.new) (N.seen notes.new)) result }
     ensures cause { Caused result
         (devices (D.seen disk.old) (O.seen out.old) (N.seen notes.old))
         (devices (D.seen disk.new) (O.seen out.new) (N.seen notes.new)) }
 {
-    let mut lines = match Lines::begin(alloc, input) {
+    let mut lines = match Lines::begin(alloc, name) {
         Ok(lines) => lines,
         Err(_) => return Status::NoMemory,
     };
@@ -168,7 +182,7 @@ fn run_plan<D: Disk, O: Sink, N: Sink>(
         payloads: 0,
         totals,
     };
-    match run_lines(alloc, plan, &mut lines, &mut counted, disk, notes) {
+    match run_lines(alloc, plan, source, &mut lines, &mut counted, disk, notes) {
         Ok(()) => sum_up(alloc, plan, &counted.totals, out),
         Err(stop) => Status::from(stop),
     }
@@ -178,13 +192,15 @@ fn run_plan<D: Disk, O: Sink, N: Sink>(
 fn run_whole<D: Disk, O: Sink, N: Sink>(
     alloc: Global,
     plan: &Plan,
-    input: &str,
+    name: &str,
+    source: &mut Source,
     disk: &mut D,
     out: &mut O,
     notes: &mut N,
 ) -> Status
-    requires apart { IfOk (conf_of plan.now) (ApartFrom input.now) }
-    ensures runs { IfOk (conf_of plan.now) (λ conf. Runs (run_meaning conf input.now)
+    requires apart { IfOk (conf_of plan.now) (ApartFrom (text_in source.old name.now)) }
+    ensures runs { IfOk (conf_of plan.now) (λ conf.
+        Runs (run_meaning conf (text_in source.old name.now))
         (devices (D.seen disk.old) (O.seen out.old) (N.seen notes.old))
         (devices (D.seen disk.new) (O.seen out.new) (N.seen notes.new)) result) }
     ensures cause { Caused result
@@ -192,7 +208,7 @@ fn run_whole<D: Disk, O: Sink, N: Sink>(
         (devices (D.seen disk.new) (O.seen out.new) (N.seen notes.new)) }
 {
     match plan_run(alloc, plan) {
-        Ok(plan) => run_plan(alloc, &plan, input, disk, out, notes),
+        Ok(plan) => run_plan(alloc, &plan, name, source, disk, out, notes),
         Err(_) => Status::NoMemory,
     }
 }
@@ -218,17 +234,22 @@ fn plan_beside<P: PatternMaker>(
     }
 }
 
-/// Runs the configuration with that name over the payloads of the input.
-pub fn run_alone<D: Disk, O: Sink, N: Sink, P: PatternMaker>(
+// Runs the configuration with that name, whose exporters may write to none of these names, over the
+// lines under a name.
+fn run_conf<D: Disk, O: Sink, N: Sink, P: PatternMaker>(
     alloc: Global,
     conf: &str,
-    input: &str,
+    names: &[&str],
+    name: &str,
+    source: &mut Source,
     disk: &mut D,
     out: &mut O,
     notes: &mut N,
     maker: &mut P,
 ) -> Status
-    ensures runs { RunsConf conf.now input.now
+    requires { IsSafeFrom (map (λ name. name.now) names.now) source.old name.now }
+    ensures runs { RunsConf (map (λ name. name.now) names.now) (text_in source.old name.now)
+        conf.now
         (lent (devices (D.seen disk.old) (O.seen out.old) (N.seen notes.old))
         (P.refusals maker.old))
         (lent (devices (D.seen disk.new) (O.seen out.new) (N.seen notes.new))
@@ -241,12 +262,83 @@ pub fn run_alone<D: Disk, O: Sink, N: Sink, P: PatternMaker>(
         Ok(bytes) => bytes,
         Err(stop) => return Status::from(stop),
     };
-    match plan_beside(alloc, maker, bytes.as_slice(), &[input, conf]) {
-        Ok(plan) => run_whole(alloc, &plan, input, disk, out, notes),
+    match plan_beside(alloc, maker, bytes.as_slice(), names) {
+        Ok(plan) => run_whole(alloc, &plan, name, source, disk, out, notes),
         Err(ConfStop::Fault(fault)) => match fault_note(alloc, &fault) {
             Ok(note) => tell(&Said::Fault(note), out, notes),
             Err(_) => Status::NoMemory,
         },
         Err(ConfStop::NoMemory) => Status::NoMemory,
     }
+}
+
+/// Runs the configuration with that name over the payloads of the input.
+pub fn run_alone<D: Disk, O: Sink, N: Sink, P: PatternMaker>(
+    alloc: Global,
+    conf: &str,
+    input: &str,
+    disk: &mut D,
+    out: &mut O,
+    notes: &mut N,
+    maker: &mut P,
+) -> Status
+    ensures runs { RunsConf (input.now ∷ conf.now ∷ []) (under input.now) conf.now
+        (lent (devices (D.seen disk.old) (O.seen out.old) (N.seen notes.old))
+        (P.refusals maker.old))
+        (lent (devices (D.seen disk.new) (O.seen out.new) (N.seen notes.new))
+        (P.refusals maker.new)) result }
+    ensures cause { Caused result
+        (devices (D.seen disk.old) (O.seen out.old) (N.seen notes.old))
+        (devices (D.seen disk.new) (O.seen out.new) (N.seen notes.new)) }
+{
+    let mut source = Source::File;
+    let names = [input, conf];
+    run_conf(
+        alloc,
+        conf,
+        &names,
+        input,
+        &mut source,
+        disk,
+        out,
+        notes,
+        maker,
+    )
+}
+
+/// Runs the configuration with that name over so many payloads that are made from a seed.
+pub fn run_demo<D: Disk, O: Sink, N: Sink, P: PatternMaker>(
+    alloc: Global,
+    conf: &str,
+    made: Making,
+    disk: &mut D,
+    out: &mut O,
+    notes: &mut N,
+    maker: &mut P,
+) -> Status
+    requires { made.count ≤ MAX_PAYLOADS }
+    ensures runs { RunsConf (conf.now ∷ []) (spec.made made.seed made.count) conf.now
+        (lent (devices (D.seen disk.old) (O.seen out.old) (N.seen notes.old))
+        (P.refusals maker.old))
+        (lent (devices (D.seen disk.new) (O.seen out.new) (N.seen notes.new))
+        (P.refusals maker.new)) result }
+    ensures cause { Caused result
+        (devices (D.seen disk.old) (O.seen out.old) (N.seen notes.old))
+        (devices (D.seen disk.new) (O.seen out.new) (N.seen notes.new)) }
+{
+    let mut source = match Source::made(alloc, "demo", made.seed, made.count) {
+        Ok(source) => source,
+        Err(_) => return Status::NoMemory,
+    };
+    run_conf(
+        alloc,
+        conf,
+        &[conf],
+        "demo",
+        &mut source,
+        disk,
+        out,
+        notes,
+        maker,
+    )
 }

@@ -1,22 +1,20 @@
 -- What stands between two lines goes on over each call, and at each end gives what stands there.
-use Rattle.std.proofs.Common.{[], ◌∷◌, ℕ, Option, Vec, Global, IsTrue, ◌∙◌, refl, sym, subst, arith}
+use Rattle.std.proofs.Common.{[], ◌∷◌, List, ℕ, Option, Ok, Err, Vec, Global, IsTrue, ◌∙◌, ap, refl, sym, subst, arith}
 use Rattle.export_sink.specs.Planning.{conf_in}
 use Rattle.leg_model.specs.Exports.{alone}
 use Rattle.tele_io.specs.Mark.{Mark}
-use Rattle.collector.specs.Configured.{run_meaning}
 use Rattle.collector.specs.Devices.{devices}
 use Rattle.collector.specs.Lines.{status_of, stop_of}
-use Rattle.collector.specs.RunLines.{nothing_gathered}
+use Rattle.collector.specs.Source.{text_in}
 use Rattle.collector.proofs.Apart.{apart-texts}
 use Rattle.collector.proofs.Causes.{stay-itself, stay-then, caused-after, read-stays, read-stops}
-use Rattle.collector.proofs.Going.{going-takes}
-use Rattle.collector.proofs.RunGoing.{reads-apart, run-begins, run-read, run-on, run-line-ends, run-completes, run-stops}
+use Rattle.collector.proofs.RunGoing.{run-begins, run-read, run-takes, run-on, run-line-ends, run-completes, run-stops}
 use Rattle.collector.proofs.configured.run_lines.Goals as goal
 
 pub lines-init : goal.lines-init
 lines-init g c = record {
-  going = λ begun out stands. run-begins (conf_in c.args.plan.now) c.args.lines.now.name begun _ _ _ _ c.requires.first c.requires.fresh.0 c.requires.fresh.1 stands;
-  name = refl;
+  going = λ begun out stands. run-begins (conf_in c.args.plan.now) (text_in c.args.source.now c.args.lines.now.name) begun _ _ c.args.lines.now.name _ _ c.requires.first c.requires.fresh.0 c.requires.fresh.1 stands;
+  same = λ held. refl;
   live = subst (λ (p : Mark). IsTrue p.live) (sym c.requires.first) refl;
   room = omega (arith, c.requires.fresh.0);
   counts = λ out. stay-itself (devices (g.D.Disk.seen c.args.disk.now) out (g.N.Sink.seen c.args.notes.now));
@@ -30,22 +28,22 @@ run_line-requires-clause-apart g c =
 pub returns-in-Err-run_line-clause-ends : goal.returns-in-Err-run_line-clause-ends
 returns-in-Err-run_line-clause-ends g c = λ begun out stands.
     let conf = conf_in c.args.plan.now in
-    let input = c.args.lines.now.name in
+    let input = text_in c.args.source.now c.args.lines.now.name in
     let inv = c.lines.invariant in
     let run = inv.going begun out stands in
     let disk = g.D.Disk.seen c.next.new.disk in
     let notes = g.N.Sink.seen c.lines.notes in
-    let taken = going-takes (run_meaning conf input) (nothing_gathered conf) begun c.lines.lines _ (g.D.Disk.seen c.lines.disk) disk out notes c.next.new.self _
-    (reads-apart conf input c.requires.apart) inv.name run.going c.in-Ok-Some.ensures.read in
+    let taken = run-takes {Z = Global} conf input c.requires.apart begun c.lines.lines c.next.new.lines (Ok c.in-Ok-Some.field-0) c.lines.counted.payloads c.lines.counted.totals
+    (text_in c.lines.source c.lines.lines.name) inv.same _ (g.D.Disk.seen c.lines.disk) disk out notes run c.in-Ok-Some.ensures.read in
     run-line-ends conf input c.requires.apart begun c.lines.lines c.lines.counted.payloads c.lines.counted.totals disk out notes
     (run-read conf input begun c.lines.lines _ _ _ _ disk out notes run c.in-Ok-Some.ensures.read)
-    c.in-Err-run_line.stop c.as_slice.result.now c.in-Ok-Some.line c.next.new.self _ _ c.as_slice.ensures.value (rw c.in-Ok-Some.field-0-is at taken)
+    c.in-Err-run_line.stop c.as_slice.result.now c.in-Ok-Some.line c.next.new.lines _ _ c.as_slice.ensures.value (rw c.in-Ok-Some.field-0-is at taken)
     c.in-Err-run_line.ensures.texts c.in-Err-run_line.ensures.notes c.in-Err-run_line.ensures.ends
 
 pub lines-preserved : goal.lines-preserved
 lines-preserved g c =
     let conf = conf_in c.args.plan.now in
-    let input = c.args.lines.now.name in
+    let input = text_in c.args.source.now c.args.lines.now.name in
     let inv = c.lines.invariant in
     let disk = g.D.Disk.seen c.next.new.disk in
     let notes = g.N.Sink.seen c.lines.notes in
@@ -53,13 +51,15 @@ lines-preserved g c =
     record {
       going = λ begun out stands.
           let run = inv.going begun out stands in
-          let taken = going-takes (run_meaning conf input) (nothing_gathered conf) begun c.lines.lines _ (g.D.Disk.seen c.lines.disk) disk out notes c.next.new.self _
-          (reads-apart conf input c.requires.apart) inv.name run.going c.in-Ok-Some.ensures.read in
+          let taken = run-takes {Z = Global} conf input c.requires.apart begun c.lines.lines c.next.new.lines (Ok c.in-Ok-Some.field-0) c.lines.counted.payloads c.lines.counted.totals
+          (text_in c.lines.source c.lines.lines.name) inv.same _ (g.D.Disk.seen c.lines.disk) disk out notes run c.in-Ok-Some.ensures.read in
           run-on conf input c.requires.apart begun c.lines.lines c.lines.counted.payloads c.lines.counted.totals disk out notes
           (run-read conf input begun c.lines.lines _ _ _ _ disk out notes run c.in-Ok-Some.ensures.read)
-          c.as_slice.result.now c.in-Ok-Some.line c.next.new.self _ _ _ _ c.as_slice.ensures.value (rw c.in-Ok-Some.field-0-is at taken)
+          c.as_slice.result.now c.in-Ok-Some.line c.next.new.lines _ _ _ _ c.as_slice.ensures.value (rw c.in-Ok-Some.field-0-is at taken)
           c.in-Ok.ensures.texts c.in-Ok.ensures.notes c.in-Ok.ensures.counts.0 c.in-Ok.ensures.counts.1;
-      name = c.next.ensures.name ∙ inv.name;
+      same = λ held.
+          c.next.ensures.same c.next.new.lines.name held
+          ∙ ap (λ (n : List ℕ). text_in c.lines.source n held) c.next.ensures.name ∙ inv.same held;
       live = c.in-Ok-Some.ensures.live;
       room = omega (arith, inv.room, counted.0, c.in-Ok.ensures.counts.0);
       counts = λ out.
@@ -73,31 +73,31 @@ lines-preserved g c =
 pub returns-in-Ok-None-clause-ends : goal.returns-in-Ok-None-clause-ends
 returns-in-Ok-None-clause-ends g c = λ begun out stands.
     let conf = conf_in c.args.plan.now in
-    let input = c.args.lines.now.name in
+    let input = text_in c.args.source.now c.args.lines.now.name in
     let inv = c.lines.invariant in
     let run = inv.going begun out stands in
     let disk = g.D.Disk.seen c.next.new.disk in
     let notes = g.N.Sink.seen c.lines.notes in
-    let taken = going-takes (run_meaning conf input) (nothing_gathered conf) begun c.lines.lines _ (g.D.Disk.seen c.lines.disk) disk out notes c.next.new.self _
-    (reads-apart conf input c.requires.apart) inv.name run.going c.in-Ok-None.ensures.read in
+    let taken = run-takes {Z = Global} conf input c.requires.apart begun c.lines.lines c.next.new.lines (Ok c.in-Ok-None.field-0) c.lines.counted.payloads c.lines.counted.totals
+    (text_in c.lines.source c.lines.lines.name) inv.same _ (g.D.Disk.seen c.lines.disk) disk out notes run c.in-Ok-None.ensures.read in
     run-completes conf input c.requires.apart begun c.lines.lines c.lines.counted.payloads c.lines.counted.totals disk out notes
     (run-read conf input begun c.lines.lines _ _ _ _ disk out notes run c.in-Ok-None.ensures.read)
-    Global c.next.new.self (rw c.in-Ok-None.field-0-is at taken)
+    Global c.next.new.lines (rw c.in-Ok-None.field-0-is at taken)
 
 pub returns-in-Err-clause-ends : goal.returns-in-Err-clause-ends
 returns-in-Err-clause-ends g c = λ begun out stands.
     let conf = conf_in c.args.plan.now in
-    let input = c.args.lines.now.name in
+    let input = text_in c.args.source.now c.args.lines.now.name in
     let inv = c.lines.invariant in
     let run = inv.going begun out stands in
     let disk = g.D.Disk.seen c.next.new.disk in
     let notes = g.N.Sink.seen c.lines.notes in
-    let taken = going-takes (run_meaning conf input) (nothing_gathered conf) begun c.lines.lines _ (g.D.Disk.seen c.lines.disk) disk out notes c.next.new.self _
-    (reads-apart conf input c.requires.apart) inv.name run.going c.in-Err.ensures.read in
+    let taken = run-takes {Z = Global} conf input c.requires.apart begun c.lines.lines c.next.new.lines (Err c.in-Err.stop) c.lines.counted.payloads c.lines.counted.totals
+    (text_in c.lines.source c.lines.lines.name) inv.same _ (g.D.Disk.seen c.lines.disk) disk out notes run c.in-Err.ensures.read in
     rw c.from.ensures
     (run-stops conf input c.requires.apart begun c.lines.lines c.lines.counted.payloads c.lines.counted.totals disk out notes
     (run-read conf input begun c.lines.lines _ _ _ _ disk out notes run c.in-Err.ensures.read)
-    Global c.in-Err.stop c.next.new.self taken)
+    c.in-Err.stop taken)
 
 -- the counts
 pub returns-in-Err-run_line-clause-cause : goal.returns-in-Err-run_line-clause-cause

@@ -8,6 +8,7 @@ use Rattle.collector.specs.Configured.{run_meaning}
 use Rattle.collector.specs.Devices.{devices}
 use Rattle.collector.specs.Ends.{Runs}
 use Rattle.collector.specs.Lines.{status_of}
+use Rattle.collector.specs.Source.{text_in}
 use Rattle.collector.proofs.Causes.{stay-then, caused-after, write-stays}
 use Rattle.collector.proofs.RunConf.{run-created, run-uncreated}
 use Rattle.collector.proofs.RunLemmas.{runs-untouched, runs-summed, sum-causes}
@@ -23,7 +24,7 @@ returns-in-Err-no_totals-clause-runs g c =
 
 pub returns-in-Err-create_files-clause-runs : goal.returns-in-Err-create_files-clause-runs
 returns-in-Err-create_files-clause-runs g c =
-    run-uncreated (conf_in c.args.plan.now) c.args.input.now _ _ (g.O.Sink.seen c.args.out.now) (g.N.Sink.seen c.args.notes.now) c.as_slice.result.now c.as_slice.ensures _ c.in-Err-create_files.ensures
+    run-uncreated (conf_in c.args.plan.now) (text_in c.args.source.now c.args.name.now) _ _ (g.O.Sink.seen c.args.out.now) (g.N.Sink.seen c.args.notes.now) c.as_slice.result.now c.as_slice.ensures _ c.in-Err-create_files.ensures
 
 pub returns-in-Ok-run_lines-clause-runs : goal.returns-in-Ok-run_lines-clause-runs
 returns-in-Ok-run_lines-clause-runs g c =
@@ -36,7 +37,7 @@ returns-in-Ok-run_lines-clause-runs g c =
     let totals = c.run_lines.new.counted.totals in
     let ends = c.in-Ok-run_lines.ensures.ends old out (run-created conf _ _ _ _ _ c.as_slice.result.now c.as_slice.ensures c.in-Ok-create_files.ensures) in
     runs-summed _ old disk out (g.O.Sink.seen c.sum_up.new.out) notes (totals_text conf totals) totals.refused
-    (subst (λ (name : List ℕ). Completes (run_meaning conf name) (totals_text conf totals) totals.refused old (devices disk out notes)) named ends)
+    (subst (λ (name : List ℕ). Completes (run_meaning conf (text_in c.args.source.now name)) (totals_text conf totals) totals.refused old (devices disk out notes)) named ends)
     c.sum_up.result c.sum_up.ensures
 
 pub returns-clause-runs : goal.returns-clause-runs
@@ -48,7 +49,7 @@ returns-clause-runs g c =
     let named = ap (λ (p : Mark). p.name) c.in-Ok.ensures.at_start in
     let ends = c.in-Err-run_lines.ensures.ends old out (run-created conf _ _ _ _ _ c.as_slice.result.now c.as_slice.ensures c.in-Ok-create_files.ensures) in
     rw c.from.ensures
-    (subst (λ (name : List ℕ). Runs (run_meaning conf name) old new (status_of c.in-Err-run_lines.stop)) named ends)
+    (subst (λ (name : List ℕ). Runs (run_meaning conf (text_in c.args.source.now name)) old new (status_of c.in-Err-run_lines.stop)) named ends)
 
 pub returns-in-Ok-run_lines-clause-cause : goal.returns-in-Ok-run_lines-clause-cause
 returns-in-Ok-run_lines-clause-cause g c =
