@@ -20,3 +20,11 @@ pub mod CopyExact
 pub mod CopyApart
 pub mod CopyPaths
 pub mod CopyWent
+pub mod Owned
+pub mod OwnLevels
+pub mod Ways
+pub mod Steps
+pub mod OwnBatch
+pub mod OwnResource
+pub mod OwnScope
+pub mod OwnLog

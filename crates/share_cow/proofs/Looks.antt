@@ -1,5 +1,5 @@
 -- What a live node stands for, and what its list says of it.
-use Rattle.std.proofs.Common.{◌≡◌, ◌+◌, ◌<◌, ◌≤◌, ℕ, zero, suc, List, [], ◌∷◌, ◌++◌, length, get_or, map, Option, Some, None, refl, ap, sym, ◌∙◌, arith, take, inl, inr, ◌⊎◌}
+use Rattle.std.proofs.Common.{◌≡◌, ◌+◌, ◌<◌, ◌≤◌, ℕ, zero, suc, List, [], ◌∷◌, ◌++◌, length, get_or, map, Option, Some, None, refl, ap, ◌∙◌, arith, take, inl, inr, ◌⊎◌}
 use Rattle.std.specs.Prelude.{IsSome, cond, filter_map, option_map, slice_get}
 use Rattle.std.proofs.lemmas.List.{take_more}
 use Rattle.pdata_tree.specs.Tree.{nodes_of_resources, nodes_of_scopes, records_of_resources, records_of_scopes}

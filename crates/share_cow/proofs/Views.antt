@@ -1,5 +1,5 @@
 -- What the lists of a tree's nodes say of the tree.
-use Rattle.std.proofs.Common.{◌≡◌, ◌<◌, ◌^◌, ℕ, List, [], ◌∷◌, Some, refl, length, get_or, map, ap, sym, ◌∙◌, arith}
+use Rattle.std.proofs.Common.{◌≡◌, ◌<◌, ◌^◌, ℕ, List, ◌∷◌, Some, refl, length, get_or, map, ap, sym, ◌∙◌, arith}
 use Rattle.std.specs.Prelude.{filter_map, slice_get}
 use Rattle.pdata_tree.specs.Tree.{IsCountable, records, records_of_resources}
 use Rattle.pdata_tree.specs.declared.batch.Batch.{Batch}
@@ -9,7 +9,7 @@ use Rattle.pdata_tree.specs.declared.resource.ResourceTree.{ResourceTree}
 use Rattle.pdata_tree.specs.declared.scope.ScopeNode.{ScopeNode}
 use Rattle.pdata_tree.specs.declared.scope.ScopeTree.{ScopeTree}
 use Rattle.shelf.specs.Places.{Places, count_at, item_at}
-use Rattle.share_cow.specs.Levels.{AllCounted, Level, list_at, times, value}
+use Rattle.share_cow.specs.Levels.{AllCounted, Level, list_at, value}
 use Rattle.share_cow.specs.Lowering.{Holds}
 use Rattle.share_cow.specs.Store.{IsSound, Part, Store, as_batch, as_resource, as_scope, batch_level, batch_made, batch_named, children_of, den, first_part, nothing, resource_level, resource_levels, root_at, scope_level, scope_levels, tree_levels}
 use Rattle.share_cow.specs.Views.{batch_or_empty, grandchildren_in, logs_in, logs_or_none, scopes_in, scopes_or_none, tree_at}

@@ -5,6 +5,8 @@ ghost use Rattle.pdata_tree.specs.Tree.{nodes};
 ghost use Rattle.share_cow.specs.Kept.{AllStay, OthersStay, SharesWith};
 ghost use Rattle.share_cow.specs.Store.{IsLiveRoot, IsSound, den, made, root_at, shared, spare};
 
+mod own_path;
+
 use crate::lowering::lower_batch;
 use crate::node::Node;
 use crate::planting::plant_batch;

@@ -6,6 +6,7 @@ mod laws;
 mod looking;
 mod lowering;
 mod node;
+mod owning;
 mod planting;
 mod root;
 mod view;

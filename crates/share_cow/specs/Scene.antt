@@ -1,0 +1,45 @@
+-- What a scene over a root of a forest is: the root's tree at a place, and the nodes that writes
+-- there make.
+use Rattle.std.specs.Prelude.{◌-◌, ℕ, List, [], ◌∷◌}
+use Rattle.pdata_tree.specs.Places.{IsPlaceIn}
+use Rattle.pdata_tree.specs.Scenes.{Numbers}
+use Rattle.pdata_tree.specs.declared.batch.Batch.{Batch}
+use Rattle.pdata_tree.specs.declared.place.Context.{Context}
+use Rattle.pdata_tree.specs.declared.place.Context.TheVariants.{Resource, Scope, Log}
+use Rattle.pdata_tree.specs.declared.place.Place.{Place}
+use Rattle.share_cow.specs.Copies.{owed}
+use Rattle.share_cow.specs.Store.{IsLiveRoot, IsSound, Store, den, levels, places_of, shared}
+use Rattle.share_cow.specs.Views.{batch_or_empty}
+
+-- the tree of a root, or the empty one where the root isn't live
+abbrev pub tree_of : Store → ℕ → Batch
+tree_of s root = batch_or_empty (den s root)
+
+-- the way from a root to the object of a level at a place, by indices: a root names one payload
+abbrev pub way_to : Context → Place → List ℕ
+way_to Resource place = 0 ∷ place.resource ∷ []
+way_to Scope place = 0 ∷ place.resource ∷ place.scope ∷ []
+way_to Log place = 0 ∷ place.resource ∷ place.scope ∷ place.log ∷ []
+
+-- a level, or the context where the level lies below it
+abbrev pub within_context : Context → Context → Context
+within_context Resource level = Resource
+within_context Scope Resource = Resource
+within_context Scope _ = Scope
+within_context Log level = level
+
+-- The numbers of a scene: the places of the root's tree that are its own, which are those that
+-- aren't shared; those that are shared; and per level the nodes on the way to its object that
+-- stand at or below the first that is shared.
+abbrev pub numbers_of : Store → ℕ → Context → Place → Numbers
+numbers_of s root context place = record {
+  made = places_of s root - shared s root;
+  left = shared s root;
+  owed = λ level. owed (levels s) root (way_to (within_context context level) place);
+}
+
+-- the root is live, and the place is in its tree
+pub record Stands (s : Store) (root : ℕ) (context : Context) (place : Place) : Type 0 where
+  pub sound : IsSound s
+  pub live : IsLiveRoot s root
+  pub inside : IsPlaceIn (tree_of s root) context place
