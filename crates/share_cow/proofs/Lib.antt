@@ -28,3 +28,8 @@ pub mod OwnBatch
 pub mod OwnResource
 pub mod OwnScope
 pub mod OwnLog
+pub mod Edits
+pub mod Found
+pub mod TreeEdits
+pub mod Changed
+pub mod Written

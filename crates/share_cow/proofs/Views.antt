@@ -50,11 +50,11 @@ module _ (batches : Places (Node Unit)) (resources : Places (Node ResourceNode))
     pub resource_live : 0 < count_at resources (get_or (list_at (map children_of batches.slots) b) i 0)
     resource_live = omega (arith, resources_live (get_or (list_at (map children_of batches.slots) b) i 0), entry_times (list_at (map children_of batches.slots) b) i resource_within)
 
-    scopes_are : scopes_in tree i ≡ filter_map as_scope (map (value nothing (scope_levels scopes logs)) (list_at (map children_of resources.slots) (get_or (list_at (map children_of batches.slots) b) i 0)))
+    pub scopes_are : scopes_in tree i ≡ filter_map as_scope (map (value nothing (scope_levels scopes logs)) (list_at (map children_of resources.slots) (get_or (list_at (map children_of batches.slots) b) i 0)))
     scopes_are = ap (λ (rs : List ResourceTree). scopes_or_none (slice_get rs i)) resources_are
         ∙ scopes_found resources scopes logs counted.1.0 counted.1.1.0 (list_at (map children_of batches.slots) b) resources_live i resource_within
 
-    scopes_live : Holds (list_at (map children_of resources.slots) (get_or (list_at (map children_of batches.slots) b) i 0)) (scope_level scopes)
+    pub scopes_live : Holds (list_at (map children_of resources.slots) (get_or (list_at (map children_of batches.slots) b) i 0)) (scope_level scopes)
     scopes_live = named_scopes resources scopes logs counted.1.0 counted.1.1.0 (get_or (list_at (map children_of batches.slots) b) i 0)
 
     pub scopes_count : length (list_at (map children_of resources.slots) (get_or (list_at (map children_of batches.slots) b) i 0)) ≡ length (scopes_in tree i)
