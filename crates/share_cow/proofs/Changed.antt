@@ -3,14 +3,14 @@ use Rattle.std.proofs.Common.{◌≡◌, ◌≢◌, ◌+◌, ◌-◌, ◌<◌, �
 use Rattle.std.specs.Prelude.{option_map}
 use Rattle.std.proofs.lemmas.Bool.Decides.{eqb_tells}
 use Rattle.shelf.specs.Places.{Places, count_at, item_at}
-use Rattle.share_cow.specs.Copies.{InTree, OpenPath, owed}
+use Rattle.share_cow.specs.Copies.{InTree, OpenPath, Owns, end_of, owed}
 use Rattle.share_cow.specs.Kept.{KeepsOthers}
 use Rattle.share_cow.specs.Levels.{AllCounted, IsApart, Level, list_at, shared_places, value}
 use Rattle.share_cow.specs.Lowering.{Thins}
 use Rattle.share_cow.specs.Owning.{with_node}
 use Rattle.share_cow.specs.Store.{IsKept, IsSound, Part, Store, as_batch, built, children_of, den, level_of, levels, made, nothing, places_of, shared}
 use Rattle.share_cow.specs.declared.node.Node.{Node}
-use Rattle.share_cow.proofs.Edits.{Edits, alone, edit_apart, edit_counted, edit_in_tree, edit_owed, edit_shared, edit_stays}
+use Rattle.share_cow.proofs.Edits.{Edits, alone, edit_apart, edit_counted, edit_end, edit_in_tree, edit_owed, edit_shared, edit_stays}
 use Rattle.share_cow.proofs.Owned.{with_counts, with_item_here, with_item_other, with_names_here, with_names_other, with_thins}
 use Rattle.share_cow.proofs.Slots.{names, names_at}
 use Rattle.share_cow.proofs.Steps.{levels_places, levels_shared}
@@ -50,6 +50,7 @@ pub record Changed (ls ms : List (Level Part)) (root : ℕ) : Type 0 where
   pub places : (a : Bool) (r : ℕ) → shared_places a ms r ≡ shared_places a ls r
   pub owes : (r : ℕ) (is : List ℕ) → owed ms r is ≡ owed ls r is
   pub inside : (r : ℕ) (is : List ℕ) → InTree ls r is → InTree ms r is
+  pub ends : (r : ℕ) (is : List ℕ) → end_of ms r is ≡ end_of ls r is
 
 pub changed_by : {place : ℕ} {m m2 : Level Part} → Edits place m m2 → (above rest : List (Level Part)) (root : ℕ) (path : List ℕ) → AllCounted (above ++ m ∷ rest) → OpenPath above root path place
     → m.count place ≤ 1 → Changed (above ++ m ∷ rest) (above ++ m2 ∷ rest) root
@@ -60,6 +61,17 @@ changed_by {place = place} {m = m} e above rest root path all open_path one = re
   places = λ a r. edit_shared e a rest above r;
   owes = λ r is. edit_owed e rest above r is;
   inside = λ r is there. edit_in_tree e rest above r is there;
+  ends = λ r is. edit_end e rest above r is;
+}
+
+-- what was a root's own is so still
+pub owns_changed : (os ls ms : List (Level Part)) (root : ℕ) (path : List ℕ) (place : ℕ) → Owns os ls root path place → Changed ls ms root → Owns os ms root path place
+owns_changed os ls ms root path place w c = record {
+  ends = c.ends root path ∙ w.ends;
+  own = c.owes root path ∙ w.own;
+  left = omega (arith, w.left, c.places false root);
+  longer = λ rest there.
+      (let on = w.longer rest there in (c.inside root (path ++ rest) on.0, omega (arith, on.1, c.owes root (path ++ rest))));
 }
 
 module _ (s u : Store) (root : ℕ) (sound : IsSound s) (c : Changed (levels s) (levels u) root) (roots : u.roots ≡ s.roots) (most : u.most ≡ s.most) where

@@ -2,7 +2,7 @@
 use Rattle.std.proofs.Common.{◌≡◌, ◌≢◌, ◌+◌, ◌<◌, ◌≤◌, ℕ, zero, suc, Bool, List, [], ◌∷◌, ◌++◌, length, get_or, set, take, map, refl, ap, sym, ◌∙◌, subst, append_assoc, arith}
 use Rattle.std.specs.Prelude.{◌||◌, cond, nat_lt}
 use Rattle.std.proofs.lemmas.List.{append-nil}
-use Rattle.share_cow.specs.Copies.{InTree, OpenPath, owed}
+use Rattle.share_cow.specs.Copies.{InTree, OpenPath, end_of, owed}
 use Rattle.share_cow.specs.Levels.{AllCounted, Counted, IsApart, Level, list_at, shared_places, stands, sum_over, times, value}
 use Rattle.share_cow.proofs.CopyExact.{open_stands, stands_here, stands_not, sum_is_times}
 use Rattle.share_cow.proofs.CopyPaths.{path_stands}
@@ -101,6 +101,12 @@ module _ {X : Type 0} {place : ℕ} {m m2 : Level X} (e : Edits place m m2) wher
   edit_owed rest [] p (i ∷ is) = rw (e.counts p, e.children p) refl
   edit_owed rest (l ∷ above) p [] = refl
   edit_owed rest (l ∷ above) p (i ∷ is) = ap (cond (nat_lt 1 (l.count p)) (2 + length is)) (edit_owed rest above (get_or (list_at l.children p) i 0) is)
+
+  pub edit_end : (rest above : List (Level X)) (p : ℕ) (is : List ℕ) → end_of (above ++ m2 ∷ rest) p is ≡ end_of (above ++ m ∷ rest) p is
+  edit_end rest [] p [] = refl
+  edit_end rest [] p (i ∷ is) = ap (λ (qs : List ℕ). end_of rest (get_or qs i 0) is) (e.children p)
+  edit_end rest (l ∷ above) p [] = refl
+  edit_end rest (l ∷ above) p (i ∷ is) = edit_end rest above (get_or (list_at l.children p) i 0) is
 
   pub edit_in_tree : (rest above : List (Level X)) (p : ℕ) (is : List ℕ) → InTree (above ++ m ∷ rest) p is → InTree (above ++ m2 ∷ rest) p is
   edit_in_tree rest [] p [] there = tt

@@ -33,3 +33,8 @@ pub mod Found
 pub mod TreeEdits
 pub mod Changed
 pub mod Written
+pub mod Numbers
+pub mod Finding
+pub mod WriteResource
+pub mod WriteScope
+pub mod WriteLog

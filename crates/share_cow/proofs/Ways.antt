@@ -27,7 +27,7 @@ module _ {X : Type 0} where
   in_tree_from (l ∷ above) rest m p [] more q h there = absurd h
   in_tree_from (l ∷ above) rest m p (i ∷ is) more q h there = in_tree_from above rest m (get_or (list_at l.children p) i 0) is more q h.2 there.1
 
-  few_end : (l : Level X) (ls : List (Level X)) (p : ℕ) (is : List ℕ) → owed (l ∷ ls) p is ≡ 0 → l.count p ≤ 1
+  pub few_end : (l : Level X) (ls : List (Level X)) (p : ℕ) (is : List ℕ) → owed (l ∷ ls) p is ≡ 0 → l.count p ≤ 1
   few_end l ls p is none = elim (over_one (l.count p)) as (λ x. l.count p ≤ 1) [
     | inl t ↦ absurd (omega (arith, none, owed_shared l ls p is t))
     | inr t ↦ t
@@ -52,6 +52,15 @@ module _ {X : Type 0} where
     own = owed_end l ls root one;
     left = omega (arith, owed_end l ls root one);
     longer = λ rest there. (there, omega (arith, owed_end l ls root one));
+  }
+
+  -- a path that owes nothing is the root's own already
+  pub owns_already : (ls : List (Level X)) (root : ℕ) (path : List ℕ) (place : ℕ) → end_of ls root path ≡ place → owed ls root path ≡ 0 → Owns ls ls root path place
+  owns_already ls root path place ends own = record {
+    ends = ends;
+    own = own;
+    left = omega (arith, own);
+    longer = λ rest there. (there, omega (arith, own));
   }
 
   below_there : (m : Level X) (places : List ℕ) (below : List (Level X)) (b b2 : Option (Level X)) → AreRaised places b b2 → (p : ℕ) (rest : List ℕ) → InTree (onto b below) p rest → InTree (onto b2 below) p rest

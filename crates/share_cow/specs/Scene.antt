@@ -1,9 +1,14 @@
 -- What a scene over a root of a forest is: the root's tree at a place, and the nodes that writes
 -- there make.
-use Rattle.std.specs.Prelude.{◌-◌, ℕ, List, [], ◌∷◌}
+use Rattle.std.specs.Prelude.{◌-◌, ℕ, List, [], ◌∷◌, Result, Ok}
+use Rattle.pdata_value.specs.Answers.{◌>>=◌}
+use Rattle.pdata_value.specs.declared.error.EvalErr.{EvalErr}
+use Rattle.pdata_value.specs.declared.value.Value.{Value}
+use Rattle.pdata_tree.specs.Access.{change_at, written_in}
 use Rattle.pdata_tree.specs.Places.{IsPlaceIn}
 use Rattle.pdata_tree.specs.Scenes.{Numbers}
 use Rattle.pdata_tree.specs.declared.batch.Batch.{Batch}
+use Rattle.pdata_tree.specs.declared.path.PathTo.{PathTo}
 use Rattle.pdata_tree.specs.declared.place.Context.{Context}
 use Rattle.pdata_tree.specs.declared.place.Context.TheVariants.{Resource, Scope, Log}
 use Rattle.pdata_tree.specs.declared.place.Place.{Place}
@@ -20,6 +25,12 @@ abbrev pub way_to : Context → Place → List ℕ
 way_to Resource place = 0 ∷ place.resource ∷ []
 way_to Scope place = 0 ∷ place.resource ∷ place.scope ∷ []
 way_to Log place = 0 ∷ place.resource ∷ place.scope ∷ place.log ∷ []
+
+-- the tree with a value written at a field of the object of a level at a place
+abbrev pub tree_with : Context → PathTo → Value → Place → Batch → Result Batch EvalErr
+tree_with level path v place batch =
+    change_at place.resource (written_in level path.field path.keys v place) batch.resources
+    >>= λ resources. Ok (record batch { resources = resources })
 
 -- a level, or the context where the level lies below it
 abbrev pub within_context : Context → Context → Context

@@ -5,6 +5,7 @@ ghost use Rattle.pdata_tree.specs.Tree.{nodes};
 ghost use Rattle.share_cow.specs.Kept.{AllStay, OthersStay, SharesWith};
 ghost use Rattle.share_cow.specs.Store.{IsLiveRoot, IsSound, den, made, root_at, shared, spare};
 
+mod finding;
 mod own_path;
 
 use crate::lowering::lower_batch;
