@@ -2,7 +2,7 @@
 use Rattle.std.proofs.Common.{◌≡◌, ◌≢◌, ◌+◌, ◌-◌, ◌<◌, ◌≤◌, ◌^◌, ◌↔◌, ℕ, true, false, Bool, List, [], ◌∷◌, ◌++◌, length, map, min, Option, Some, None, refl, ap, sym, ◌∙◌, subst, arith, inl, inr}
 use Rattle.std.specs.Prelude.{option_map}
 use Rattle.std.proofs.lemmas.Bool.Decides.{eqb_tells}
-use Rattle.shelf.specs.Places.{Places, count_at, item_at}
+use Rattle.shelf.specs.Places.{Places, count_at, item_at, slot_at, with_item, with_slot}
 use Rattle.share_cow.specs.Copies.{InTree, OpenPath, Owns, end_of, owed}
 use Rattle.share_cow.specs.Kept.{KeepsOthers}
 use Rattle.share_cow.specs.Levels.{AllCounted, IsApart, Level, list_at, shared_places, value}
@@ -41,6 +41,18 @@ module _ {D : Type 0} (make : D → List Part → Part) (s : Places (Node D)) (p
 
   pub content_thins : IsKept s → Thins s (set_content_of s p content)
   content_thins kept = with_thins s p live (λ n. record n { content = content }) kept node is refl
+
+-- a node that is put in the place of one with the same children
+item_slot : {D : Type 0} (slot : Option (Node D × ℕ)) (node : Node D) (content : D) → option_map (λ (kept : Node D × ℕ). kept.0) slot ≡ Some node
+    → option_map {U = Node D × ℕ} (λ (kept : Node D × ℕ). (record { content = content; children = node.children }, kept.1)) slot ≡ option_map (λ (kept : Node D × ℕ). (record kept.0 { content = content }, kept.1)) slot
+item_slot None node content is = refl
+item_slot {D} (Some kept) node content is =
+    let f : List ℕ → Option (Node D × ℕ) = λ qs. Some (record { content = content; children = qs }, kept.1) in
+    ap (λ (o : Option (Node D)). f (names o)) (sym is)
+
+pub item_is : {D : Type 0} (s : Places (Node D)) (p : ℕ) (node : Node D) (content : D) → item_at s p ≡ Some node
+    → with_item s p (record { content = content; children = node.children }) ≡ set_content_of s p content
+item_is s p node content is = ap (with_slot s p) (item_slot (slot_at s p) node content is)
 
 -- what such a change does to all levels
 pub record Changed (ls ms : List (Level Part)) (root : ℕ) : Type 0 where

@@ -38,3 +38,4 @@ pub mod Finding
 pub mod WriteResource
 pub mod WriteScope
 pub mod WriteLog
+pub mod Inside

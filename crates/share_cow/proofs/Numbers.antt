@@ -1,21 +1,24 @@
 -- The numbers of a scene after a write.
 use Rattle.std.proofs.Common.{◌≡◌, ◌+◌, ◌-◌, ◌<◌, ◌≤◌, ◌^◌, ℕ, Bool, true, false, List, [], ◌∷◌, ◌++◌, length, get_or, map, Option, Some, None, refl, ap, sym, ◌∙◌, subst, zero, suc, Result, Ok, Err, ◌⊎◌, arith, inl, inr}
+use Rattle.std.specs.Prelude.{IfSome}
+use Rattle.pdata_value.specs.Errors.{eval_fault}
 use Rattle.pdata_value.specs.declared.error.EvalErr.{EvalErr}
 use Rattle.pdata_value.specs.declared.error.EvalStop.{EvalStop}
 use Rattle.pdata_value.specs.declared.error.EvalStop.TheVariants as stop
-use Rattle.pdata_tree.specs.Scenes.{Counts, Makes, NumbersStay, rank}
+use Rattle.pdata_tree.specs.Scenes.{Counts, Makes, Numbers, NumbersStay, rank}
+use Rattle.pdata_tree.specs.declared.batch.Batch.{Batch}
 use Rattle.pdata_tree.specs.declared.place.Context.{Context}
 use Rattle.pdata_tree.specs.declared.place.Context.TheVariants.{Resource, Scope, Log}
 use Rattle.pdata_tree.specs.declared.place.Place.{Place}
 use Rattle.share_cow.specs.Copies.{InTree, Owns, owed}
 use Rattle.share_cow.specs.Kept.{KeepsOthers}
 use Rattle.share_cow.specs.Levels.{Level, list_at, shared_places, sum_over}
-use Rattle.share_cow.specs.Scene.{numbers_of, way_to, within_context}
-use Rattle.share_cow.specs.Store.{Part, Store, batch_named, levels, places_of, root_at, shared, tree_levels}
+use Rattle.share_cow.specs.Scene.{Writes, numbers_of, tree_of, way_to, within_context}
+use Rattle.share_cow.specs.Store.{IsSound, Part, Store, batch_named, levels, places_of, root_at, shared, tree_levels}
 use Rattle.share_cow.proofs.CopyPaths.{owed_end, owed_on}
 use Rattle.share_cow.proofs.Lists.{sum_below}
 use Rattle.share_cow.proofs.Same.{shared_all}
-use Rattle.share_cow.proofs.Steps.{levels_shared}
+use Rattle.share_cow.proofs.Steps.{keeps_refl, levels_shared}
 use Rattle.share_cow.proofs.Ways.{few_end}
 
 -- no more places are shared than there are
@@ -38,6 +41,9 @@ module _ {X : Type 0} where
 
 pub some_same : {X : Type 0} {a b : X} → Some a ≡ Some b → a ≡ b
 some_same e = cc
+
+pub ok_err : {X E : Type 0} {x : X} {error : E} → Ok x ≡ Err error → ⊥
+ok_err e = cc
 
 either : (a b : ℕ) → (a ≤ b) ⊎ (b ≤ a)
 either zero b = inl (omega arith)
@@ -135,3 +141,18 @@ module _ (s u : Store) (root : ℕ) (place : Place) (p : ℕ) where
   kept_inside Scope Log lk there w = (w.longer (place.log ∷ []) there).0
   kept_inside Log Log lk there w = (w.longer [] there).0
   kept_inside _ _ lk there w = absurd (omega (arith, lk))
+
+refused_counts : (L : Context) (n : Numbers) (stop : EvalStop) → Counts L n n (Err stop)
+refused_counts L n (stop.Err error) = record { made = refl; left = refl; owed = λ level. refl }
+refused_counts L n stop.NoMemory = omega arith
+
+-- where all stays as it is
+pub unwritten : (s : Store) (root : ℕ) (place : Place) → IsSound s → (L : Context) (meant : Batch → Result Batch EvalErr) (stop : EvalStop)
+    → IfSome (eval_fault stop) (λ (error : EvalErr). meant (tree_of s root) ≡ Err error) → Writes L root place meant s s (Err stop)
+unwritten s root place sound L meant stop why = record {
+  value = (refl, why);
+  keeps = keeps_refl root s (omega arith);
+  sound = sound;
+  inside = λ K lk at. at;
+  counts = λ K lk at. refused_counts L (numbers_of s root K place) stop;
+}

@@ -25,16 +25,17 @@ use Rattle.shelf.specs.Places.{Places, count_at, item_at}
 use Rattle.share_cow.specs.Copies.{InTree, OpenPath, Owns, end_of, owed}
 use Rattle.share_cow.specs.Kept.{KeepsOthers}
 use Rattle.share_cow.specs.Levels.{Level}
-use Rattle.share_cow.specs.Scene.{numbers_of, tree_of, tree_with, way_to}
+use Rattle.share_cow.specs.Scene.{Writes, numbers_of, tree_of, tree_with, way_to}
 use Rattle.share_cow.specs.Store.{IsSound, Store, den, levels, made, batch_level, log_level, log_made, resource_level, scope_level, root_level}
 use Rattle.share_cow.specs.Views.{batch_or_empty}
 use Rattle.share_cow.specs.declared.node.Node.{Node}
 use Rattle.share_cow.proofs.Changed.{Changed, change_keeps, change_sound, content_thins, owns_changed, set_content_of}
 use Rattle.share_cow.proofs.Found.{log_of, scope_of}
-use Rattle.share_cow.proofs.Numbers.{counted, kept_inside, some_same}
-use Rattle.share_cow.proofs.OwnBatch.{item_there}
-use Rattle.share_cow.proofs.Steps.{keeps_on}
-use Rattle.share_cow.proofs.Ways.{open_of}
+use Rattle.share_cow.proofs.Inside.{in_place, in_tree}
+use Rattle.share_cow.proofs.Numbers.{counted, kept_inside, ok_err, some_same, unwritten}
+use Rattle.share_cow.proofs.OwnBatch.{item_there, way_live}
+use Rattle.share_cow.proofs.Steps.{keeps_on, keeps_refl}
+use Rattle.share_cow.proofs.Ways.{open_of, owns_already}
 use Rattle.share_cow.proofs.Written.{l_changed, l_counts, l_found, l_written, r_counts, r_found, r_tree, s_counts, s_found, s_tree}
 
 -- what a write makes of the tree
@@ -69,6 +70,16 @@ module _ (t : Store) (root : ℕ) (place : Place) (sound : IsSound t) (there : I
   l_content p ends node is =
       let at : item_at t.logs (end_of (levels t) root (way_to Log place)) ≡ Some node = subst (λ (k : ℕ). item_at t.logs k ≡ Some node) (sym ends) is in
       ap (within (λ (s : ScopeTree). slice_get s.logs place.log)) (ap (within (λ (r : ResourceTree). slice_get r.scopes place.scope)) (r_found t root sound there.0 place.resource there.1.0 rn.0 rn.1) ∙ s_found t root sound there.0 place.resource there.1.0 rn.0 rn.1 place.scope there.1.1.0 sn.0 sn.1) ∙ l_found t root sound there.0 place.resource there.1.0 rn.0 rn.1 place.scope there.1.1.0 sn.0 sn.1 place.log there.1.1.1.0 node at
+
+  -- a write that is refused leaves all as it is
+  pub l_refused : (path : PathTo) (v : Value) (stop : EvalStop) (old content : LogRecord) → log_at (tree_of t root) place ≡ Some old → Changes {Y = Unit} (log_takes path.field path.keys v old) old content (Err stop)
+      → Writes Log root place (tree_with Log path v place) t t (Err stop)
+  l_refused path v stop old content was h =
+      let here = l_content (end_of (levels t) root (way_to Log place)) refl ln.0 ln.1 in
+      let is_old : old ≡ ln.0.content = some_same (sym was ∙ here) in
+      let result : Result Unit EvalStop = Err stop in
+      let h = subst (λ (o : LogRecord). Changes {Y = Unit} (log_takes path.field path.keys v o) o content (Err stop)) is_old h in
+      unwritten t root place sound Log (tree_with Log path v place) stop (model path v place (tree_of t root) (r_tree t root sound there.0 place.resource there.1.0 rn.0 rn.1) (s_tree t root sound there.0 place.resource there.1.0 rn.0 rn.1 place.scope there.1.1.0 sn.0 sn.1) ln.0.content content result (r_found t root sound there.0 place.resource there.1.0 rn.0 rn.1) (s_found t root sound there.0 place.resource there.1.0 rn.0 rn.1 place.scope there.1.1.0 sn.0 sn.1) (l_found t root sound there.0 place.resource there.1.0 rn.0 rn.1 place.scope there.1.1.0 sn.0 sn.1 place.log there.1.1.1.0 ln.0 ln.1) h).1
 
   module _ (own : owed (levels t) root (way_to Log place) ≡ 0) (content : LogRecord) where
     opened : OpenPath (root_level t.roots ∷ batch_level t.batches ∷ resource_level t.resources ∷ scope_level t.scopes ∷ []) root (way_to Log place) (end_of (levels t) root (way_to Log place)) × (count_at t.logs (end_of (levels t) root (way_to Log place)) ≤ 1)
@@ -133,3 +144,38 @@ module _ (s t : Store) (root : ℕ) (place : Place) (p : ℕ) (sound : IsSound t
       subst (λ (b : Batch). Changes (tree_with Log path v place b) b (tree_of l_store root) result) tree
       (subst (λ (q : ℕ). Changes (tree_with Log path v place (tree_of t root)) (tree_of t root) (tree_of (record t { logs = set_content_of t.logs q content }) root) result) w.ends
       (after_value t root place sound there_still w.own content path v result (subst (λ (o : LogRecord). Changes (log_takes path.field path.keys v o) o content result) is_old h)))
+
+  -- all that the write leaves
+  pub l_writes : IsSound s → (path : PathTo) (v : Value) (result : Result Unit EvalStop) (old : LogRecord) → log_at (tree_of s root) place ≡ Some old → Changes (log_takes path.field path.keys v old) old content result
+      → ((error : EvalErr) → result ≡ Err (stop.Err error) → owed (levels s) root (way_to Log place) ≡ 0) → Writes Log root place (tree_with Log path v place) s l_store result
+  l_writes sound_s path v result old was h free =
+      let live = way_live s root there.0 in
+      record {
+        value = l_value path v result old was h;
+        keeps = l_keeps;
+        sound = l_sound;
+        inside = λ K lk at. in_place l_store root K place l_sound (l_inside K lk (in_tree s root K place sound_s live at));
+        counts = λ K lk at. l_counts_for result free K lk (in_tree s root K place sound_s live at);
+      }
+
+-- a write where the way is the root's own already
+pub l_in_place : (s : Store) (root : ℕ) (place : Place) (p : ℕ) (sound : IsSound s) (there : InTree (levels s) root (way_to Log place)) → end_of (levels s) root (way_to Log place) ≡ p
+    → owed (levels s) root (way_to Log place) ≡ 0 → (path : PathTo) (v : Value) (result : Result Unit EvalStop) (node : Node LogRecord) (content : LogRecord) → item_at s.logs p ≡ Some node
+    → Changes (log_takes path.field path.keys v node.content) node.content content result
+    → Writes Log root place (tree_with Log path v place) s (record s { logs = set_content_of s.logs p content }) result
+l_in_place s root place p sound there ends own path v result node content is h =
+    l_writes s s root place p sound (owns_already (levels s) root (way_to Log place) p ends own) there (keeps_refl root s (omega arith)) refl content
+    sound path v result node.content (l_content s root place sound there p ends node is) h (λ error e. own)
+
+-- where one had to make it so
+pub l_made : (s t : Store) (root : ℕ) (place : Place) (found p : ℕ) → IsSound s → IsSound t → Owns (levels s) (levels t) root (way_to Log place) p → InTree (levels s) root (way_to Log place)
+    → KeepsOthers root s t → den t root ≡ den s root → end_of (levels s) root (way_to Log place) ≡ found → (path : PathTo) (v : Value) (node : Node LogRecord) (content : LogRecord) → item_at s.logs found ≡ Some node
+    → Changes {Y = Unit} (log_takes path.field path.keys v node.content) node.content content (Ok tt)
+    → Writes Log root place (tree_with Log path v place) s (record t { logs = set_content_of t.logs p content }) (Ok tt)
+l_made s t root place found p sound_s sound_t w there keeps same ends path v node content is h =
+    l_writes s t root place p sound_t w there keeps same content
+    sound_s path v (Ok tt) node.content (l_content s root place sound_s there found ends node is) h (λ error e. absurd (ok_err e))
+
+-- the object is live where it was found
+pub l_found_live : (s : Store) (root : ℕ) (place : Place) (p : ℕ) → IsSound s → InTree (levels s) root (way_to Log place) → end_of (levels s) root (way_to Log place) ≡ p → 0 < count_at s.logs p
+l_found_live s root place p sound there ends = subst (λ (q : ℕ). 0 < count_at s.logs q) ends (let rn = item_there s.resources (end_of (levels s) root (0 ∷ place.resource ∷ [])) (r_counts s root sound there.0 place.resource there.1.0) in let sn = item_there s.scopes (end_of (levels s) root (0 ∷ place.resource ∷ place.scope ∷ [])) (s_counts s root sound there.0 place.resource there.1.0 rn.0 rn.1 place.scope there.1.1.0) in l_counts s root sound there.0 place.resource there.1.0 rn.0 rn.1 place.scope there.1.1.0 sn.0 sn.1 place.log there.1.1.1.0)

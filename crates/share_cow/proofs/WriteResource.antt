@@ -22,15 +22,16 @@ use Rattle.shelf.specs.Places.{Places, count_at, item_at}
 use Rattle.share_cow.specs.Copies.{InTree, OpenPath, Owns, end_of, owed}
 use Rattle.share_cow.specs.Kept.{KeepsOthers}
 use Rattle.share_cow.specs.Levels.{Level}
-use Rattle.share_cow.specs.Scene.{numbers_of, tree_of, tree_with, way_to}
+use Rattle.share_cow.specs.Scene.{Writes, numbers_of, tree_of, tree_with, way_to}
 use Rattle.share_cow.specs.Store.{IsSound, Store, den, levels, made, batch_level, resource_level, resource_made, scope_levels, root_level}
 use Rattle.share_cow.specs.Views.{batch_or_empty}
 use Rattle.share_cow.specs.declared.node.Node.{Node}
 use Rattle.share_cow.proofs.Changed.{Changed, change_keeps, change_sound, content_thins, owns_changed, set_content_of}
-use Rattle.share_cow.proofs.Numbers.{counted, kept_inside, some_same}
-use Rattle.share_cow.proofs.OwnBatch.{item_there}
-use Rattle.share_cow.proofs.Steps.{keeps_on}
-use Rattle.share_cow.proofs.Ways.{open_of}
+use Rattle.share_cow.proofs.Inside.{in_place, in_tree}
+use Rattle.share_cow.proofs.Numbers.{counted, kept_inside, ok_err, some_same, unwritten}
+use Rattle.share_cow.proofs.OwnBatch.{item_there, way_live}
+use Rattle.share_cow.proofs.Steps.{keeps_on, keeps_refl}
+use Rattle.share_cow.proofs.Ways.{open_of, owns_already}
 use Rattle.share_cow.proofs.Written.{r_changed, r_counts, r_found, r_tree, r_written}
 
 -- what a write makes of the tree
@@ -53,6 +54,16 @@ module _ (t : Store) (root : ℕ) (place : Place) (sound : IsSound t) (there : I
   r_content p ends node is =
       let at : item_at t.resources (end_of (levels t) root (way_to Resource place)) ≡ Some node = subst (λ (k : ℕ). item_at t.resources k ≡ Some node) (sym ends) is in
       ap (option_map (λ (r : ResourceTree). r.node)) (r_found t root sound there.0 place.resource there.1.0 node at)
+
+  -- a write that is refused leaves all as it is
+  pub r_refused : (path : PathTo) (v : Value) (stop : EvalStop) (old content : ResourceNode) → option_map (λ (r : ResourceTree). r.node) (resource_at (tree_of t root) place) ≡ Some old → Changes {Y = Unit} (resource_takes path.field path.keys v old) old content (Err stop)
+      → Writes Resource root place (tree_with Resource path v place) t t (Err stop)
+  r_refused path v stop old content was h =
+      let here = r_content (end_of (levels t) root (way_to Resource place)) refl rn.0 rn.1 in
+      let is_old : old ≡ rn.0.content = some_same (sym was ∙ here) in
+      let result : Result Unit EvalStop = Err stop in
+      let h = subst (λ (o : ResourceNode). Changes {Y = Unit} (resource_takes path.field path.keys v o) o content (Err stop)) is_old h in
+      unwritten t root place sound Resource (tree_with Resource path v place) stop (model path v place (tree_of t root) (r_tree t root sound there.0 place.resource there.1.0 rn.0 rn.1) content result (r_found t root sound there.0 place.resource there.1.0 rn.0 rn.1) h).1
 
   module _ (own : owed (levels t) root (way_to Resource place) ≡ 0) (content : ResourceNode) where
     opened : OpenPath (root_level t.roots ∷ batch_level t.batches ∷ []) root (way_to Resource place) (end_of (levels t) root (way_to Resource place)) × (count_at t.resources (end_of (levels t) root (way_to Resource place)) ≤ 1)
@@ -117,3 +128,38 @@ module _ (s t : Store) (root : ℕ) (place : Place) (p : ℕ) (sound : IsSound t
       subst (λ (b : Batch). Changes (tree_with Resource path v place b) b (tree_of r_store root) result) tree
       (subst (λ (q : ℕ). Changes (tree_with Resource path v place (tree_of t root)) (tree_of t root) (tree_of (record t { resources = set_content_of t.resources q content }) root) result) w.ends
       (after_value t root place sound there_still w.own content path v result (subst (λ (o : ResourceNode). Changes (resource_takes path.field path.keys v o) o content result) is_old h)))
+
+  -- all that the write leaves
+  pub r_writes : IsSound s → (path : PathTo) (v : Value) (result : Result Unit EvalStop) (old : ResourceNode) → option_map (λ (r : ResourceTree). r.node) (resource_at (tree_of s root) place) ≡ Some old → Changes (resource_takes path.field path.keys v old) old content result
+      → ((error : EvalErr) → result ≡ Err (stop.Err error) → owed (levels s) root (way_to Resource place) ≡ 0) → Writes Resource root place (tree_with Resource path v place) s r_store result
+  r_writes sound_s path v result old was h free =
+      let live = way_live s root there.0 in
+      record {
+        value = r_value path v result old was h;
+        keeps = r_keeps;
+        sound = r_sound;
+        inside = λ K lk at. in_place r_store root K place r_sound (r_inside K lk (in_tree s root K place sound_s live at));
+        counts = λ K lk at. r_counts_for result free K lk (in_tree s root K place sound_s live at);
+      }
+
+-- a write where the way is the root's own already
+pub r_in_place : (s : Store) (root : ℕ) (place : Place) (p : ℕ) (sound : IsSound s) (there : InTree (levels s) root (way_to Resource place)) → end_of (levels s) root (way_to Resource place) ≡ p
+    → owed (levels s) root (way_to Resource place) ≡ 0 → (path : PathTo) (v : Value) (result : Result Unit EvalStop) (node : Node ResourceNode) (content : ResourceNode) → item_at s.resources p ≡ Some node
+    → Changes (resource_takes path.field path.keys v node.content) node.content content result
+    → Writes Resource root place (tree_with Resource path v place) s (record s { resources = set_content_of s.resources p content }) result
+r_in_place s root place p sound there ends own path v result node content is h =
+    r_writes s s root place p sound (owns_already (levels s) root (way_to Resource place) p ends own) there (keeps_refl root s (omega arith)) refl content
+    sound path v result node.content (r_content s root place sound there p ends node is) h (λ error e. own)
+
+-- where one had to make it so
+pub r_made : (s t : Store) (root : ℕ) (place : Place) (found p : ℕ) → IsSound s → IsSound t → Owns (levels s) (levels t) root (way_to Resource place) p → InTree (levels s) root (way_to Resource place)
+    → KeepsOthers root s t → den t root ≡ den s root → end_of (levels s) root (way_to Resource place) ≡ found → (path : PathTo) (v : Value) (node : Node ResourceNode) (content : ResourceNode) → item_at s.resources found ≡ Some node
+    → Changes {Y = Unit} (resource_takes path.field path.keys v node.content) node.content content (Ok tt)
+    → Writes Resource root place (tree_with Resource path v place) s (record t { resources = set_content_of t.resources p content }) (Ok tt)
+r_made s t root place found p sound_s sound_t w there keeps same ends path v node content is h =
+    r_writes s t root place p sound_t w there keeps same content
+    sound_s path v (Ok tt) node.content (r_content s root place sound_s there found ends node is) h (λ error e. absurd (ok_err e))
+
+-- the object is live where it was found
+pub r_found_live : (s : Store) (root : ℕ) (place : Place) (p : ℕ) → IsSound s → InTree (levels s) root (way_to Resource place) → end_of (levels s) root (way_to Resource place) ≡ p → 0 < count_at s.resources p
+r_found_live s root place p sound there ends = subst (λ (q : ℕ). 0 < count_at s.resources q) ends (r_counts s root sound there.0 place.resource there.1.0)

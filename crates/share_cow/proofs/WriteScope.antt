@@ -24,16 +24,17 @@ use Rattle.shelf.specs.Places.{Places, count_at, item_at}
 use Rattle.share_cow.specs.Copies.{InTree, OpenPath, Owns, end_of, owed}
 use Rattle.share_cow.specs.Kept.{KeepsOthers}
 use Rattle.share_cow.specs.Levels.{Level}
-use Rattle.share_cow.specs.Scene.{numbers_of, tree_of, tree_with, way_to}
+use Rattle.share_cow.specs.Scene.{Writes, numbers_of, tree_of, tree_with, way_to}
 use Rattle.share_cow.specs.Store.{IsSound, Store, den, levels, made, batch_level, log_level, resource_level, scope_level, scope_made, root_level}
 use Rattle.share_cow.specs.Views.{batch_or_empty}
 use Rattle.share_cow.specs.declared.node.Node.{Node}
 use Rattle.share_cow.proofs.Changed.{Changed, change_keeps, change_sound, content_thins, owns_changed, set_content_of}
 use Rattle.share_cow.proofs.Found.{scope_of}
-use Rattle.share_cow.proofs.Numbers.{counted, kept_inside, some_same}
-use Rattle.share_cow.proofs.OwnBatch.{item_there}
-use Rattle.share_cow.proofs.Steps.{keeps_on}
-use Rattle.share_cow.proofs.Ways.{open_of}
+use Rattle.share_cow.proofs.Inside.{in_place, in_tree}
+use Rattle.share_cow.proofs.Numbers.{counted, kept_inside, ok_err, some_same, unwritten}
+use Rattle.share_cow.proofs.OwnBatch.{item_there, way_live}
+use Rattle.share_cow.proofs.Steps.{keeps_on, keeps_refl}
+use Rattle.share_cow.proofs.Ways.{open_of, owns_already}
 use Rattle.share_cow.proofs.Written.{r_counts, r_found, r_tree, s_changed, s_counts, s_found, s_tree, s_written}
 
 -- what a write makes of the tree
@@ -62,6 +63,16 @@ module _ (t : Store) (root : ℕ) (place : Place) (sound : IsSound t) (there : I
   s_content p ends node is =
       let at : item_at t.scopes (end_of (levels t) root (way_to Scope place)) ≡ Some node = subst (λ (k : ℕ). item_at t.scopes k ≡ Some node) (sym ends) is in
       ap (option_map (λ (r : ScopeTree). r.node)) (ap (within (λ (r : ResourceTree). slice_get r.scopes place.scope)) (r_found t root sound there.0 place.resource there.1.0 rn.0 rn.1) ∙ s_found t root sound there.0 place.resource there.1.0 rn.0 rn.1 place.scope there.1.1.0 node at)
+
+  -- a write that is refused leaves all as it is
+  pub s_refused : (path : PathTo) (v : Value) (stop : EvalStop) (old content : ScopeNode) → option_map (λ (r : ScopeTree). r.node) (scope_at (tree_of t root) place) ≡ Some old → Changes {Y = Unit} (scope_takes path.field path.keys v old) old content (Err stop)
+      → Writes Scope root place (tree_with Scope path v place) t t (Err stop)
+  s_refused path v stop old content was h =
+      let here = s_content (end_of (levels t) root (way_to Scope place)) refl sn.0 sn.1 in
+      let is_old : old ≡ sn.0.content = some_same (sym was ∙ here) in
+      let result : Result Unit EvalStop = Err stop in
+      let h = subst (λ (o : ScopeNode). Changes {Y = Unit} (scope_takes path.field path.keys v o) o content (Err stop)) is_old h in
+      unwritten t root place sound Scope (tree_with Scope path v place) stop (model path v place (tree_of t root) (r_tree t root sound there.0 place.resource there.1.0 rn.0 rn.1) (s_tree t root sound there.0 place.resource there.1.0 rn.0 rn.1 place.scope there.1.1.0 sn.0 sn.1) content result (r_found t root sound there.0 place.resource there.1.0 rn.0 rn.1) (s_found t root sound there.0 place.resource there.1.0 rn.0 rn.1 place.scope there.1.1.0 sn.0 sn.1) h).1
 
   module _ (own : owed (levels t) root (way_to Scope place) ≡ 0) (content : ScopeNode) where
     opened : OpenPath (root_level t.roots ∷ batch_level t.batches ∷ resource_level t.resources ∷ []) root (way_to Scope place) (end_of (levels t) root (way_to Scope place)) × (count_at t.scopes (end_of (levels t) root (way_to Scope place)) ≤ 1)
@@ -126,3 +137,38 @@ module _ (s t : Store) (root : ℕ) (place : Place) (p : ℕ) (sound : IsSound t
       subst (λ (b : Batch). Changes (tree_with Scope path v place b) b (tree_of s_store root) result) tree
       (subst (λ (q : ℕ). Changes (tree_with Scope path v place (tree_of t root)) (tree_of t root) (tree_of (record t { scopes = set_content_of t.scopes q content }) root) result) w.ends
       (after_value t root place sound there_still w.own content path v result (subst (λ (o : ScopeNode). Changes (scope_takes path.field path.keys v o) o content result) is_old h)))
+
+  -- all that the write leaves
+  pub s_writes : IsSound s → (path : PathTo) (v : Value) (result : Result Unit EvalStop) (old : ScopeNode) → option_map (λ (r : ScopeTree). r.node) (scope_at (tree_of s root) place) ≡ Some old → Changes (scope_takes path.field path.keys v old) old content result
+      → ((error : EvalErr) → result ≡ Err (stop.Err error) → owed (levels s) root (way_to Scope place) ≡ 0) → Writes Scope root place (tree_with Scope path v place) s s_store result
+  s_writes sound_s path v result old was h free =
+      let live = way_live s root there.0 in
+      record {
+        value = s_value path v result old was h;
+        keeps = s_keeps;
+        sound = s_sound;
+        inside = λ K lk at. in_place s_store root K place s_sound (s_inside K lk (in_tree s root K place sound_s live at));
+        counts = λ K lk at. s_counts_for result free K lk (in_tree s root K place sound_s live at);
+      }
+
+-- a write where the way is the root's own already
+pub s_in_place : (s : Store) (root : ℕ) (place : Place) (p : ℕ) (sound : IsSound s) (there : InTree (levels s) root (way_to Scope place)) → end_of (levels s) root (way_to Scope place) ≡ p
+    → owed (levels s) root (way_to Scope place) ≡ 0 → (path : PathTo) (v : Value) (result : Result Unit EvalStop) (node : Node ScopeNode) (content : ScopeNode) → item_at s.scopes p ≡ Some node
+    → Changes (scope_takes path.field path.keys v node.content) node.content content result
+    → Writes Scope root place (tree_with Scope path v place) s (record s { scopes = set_content_of s.scopes p content }) result
+s_in_place s root place p sound there ends own path v result node content is h =
+    s_writes s s root place p sound (owns_already (levels s) root (way_to Scope place) p ends own) there (keeps_refl root s (omega arith)) refl content
+    sound path v result node.content (s_content s root place sound there p ends node is) h (λ error e. own)
+
+-- where one had to make it so
+pub s_made : (s t : Store) (root : ℕ) (place : Place) (found p : ℕ) → IsSound s → IsSound t → Owns (levels s) (levels t) root (way_to Scope place) p → InTree (levels s) root (way_to Scope place)
+    → KeepsOthers root s t → den t root ≡ den s root → end_of (levels s) root (way_to Scope place) ≡ found → (path : PathTo) (v : Value) (node : Node ScopeNode) (content : ScopeNode) → item_at s.scopes found ≡ Some node
+    → Changes {Y = Unit} (scope_takes path.field path.keys v node.content) node.content content (Ok tt)
+    → Writes Scope root place (tree_with Scope path v place) s (record t { scopes = set_content_of t.scopes p content }) (Ok tt)
+s_made s t root place found p sound_s sound_t w there keeps same ends path v node content is h =
+    s_writes s t root place p sound_t w there keeps same content
+    sound_s path v (Ok tt) node.content (s_content s root place sound_s there found ends node is) h (λ error e. absurd (ok_err e))
+
+-- the object is live where it was found
+pub s_found_live : (s : Store) (root : ℕ) (place : Place) (p : ℕ) → IsSound s → InTree (levels s) root (way_to Scope place) → end_of (levels s) root (way_to Scope place) ≡ p → 0 < count_at s.scopes p
+s_found_live s root place p sound there ends = subst (λ (q : ℕ). 0 < count_at s.scopes q) ends (let rn = item_there s.resources (end_of (levels s) root (0 ∷ place.resource ∷ [])) (r_counts s root sound there.0 place.resource there.1.0) in s_counts s root sound there.0 place.resource there.1.0 rn.0 rn.1 place.scope there.1.1.0)

@@ -1,18 +1,21 @@
 -- What a scene over a root of a forest is: the root's tree at a place, and the nodes that writes
 -- there make.
-use Rattle.std.specs.Prelude.{◌-◌, ℕ, List, [], ◌∷◌, Result, Ok}
+use Rattle.std.specs.Prelude.{◌-◌, ◌≤◌, ℕ, List, [], ◌∷◌, Result, Ok}
 use Rattle.pdata_value.specs.Answers.{◌>>=◌}
 use Rattle.pdata_value.specs.declared.error.EvalErr.{EvalErr}
+use Rattle.pdata_value.specs.declared.error.EvalStop.{EvalStop}
 use Rattle.pdata_value.specs.declared.value.Value.{Value}
 use Rattle.pdata_tree.specs.Access.{change_at, written_in}
+use Rattle.pdata_tree.specs.Changes.{Changes}
 use Rattle.pdata_tree.specs.Places.{IsPlaceIn}
-use Rattle.pdata_tree.specs.Scenes.{Numbers}
+use Rattle.pdata_tree.specs.Scenes.{Counts, Numbers, rank}
 use Rattle.pdata_tree.specs.declared.batch.Batch.{Batch}
 use Rattle.pdata_tree.specs.declared.path.PathTo.{PathTo}
 use Rattle.pdata_tree.specs.declared.place.Context.{Context}
 use Rattle.pdata_tree.specs.declared.place.Context.TheVariants.{Resource, Scope, Log}
 use Rattle.pdata_tree.specs.declared.place.Place.{Place}
 use Rattle.share_cow.specs.Copies.{owed}
+use Rattle.share_cow.specs.Kept.{KeepsOthers}
 use Rattle.share_cow.specs.Store.{IsLiveRoot, IsSound, Store, den, levels, places_of, shared}
 use Rattle.share_cow.specs.Views.{batch_or_empty}
 
@@ -54,3 +57,16 @@ pub record Stands (s : Store) (root : ℕ) (context : Context) (place : Place) :
   pub sound : IsSound s
   pub live : IsLiveRoot s root
   pub inside : IsPlaceIn (tree_of s root) context place
+
+-- What a write at a level leaves of a forest. The root's tree becomes what is meant, or stays where
+-- that is an error or memory ran out; all else is kept, and so is each place below the written
+-- object. The numbers of a scene on the root at the place are those after a write at the level.
+pub record Writes (level : Context) (root : ℕ) (place : Place) (meant : Batch → Result Batch EvalErr)
+    (old new : Store) (result : Result Unit EvalStop) : Type 0 where
+  pub value : Changes (meant (tree_of old root)) (tree_of old root) (tree_of new root) result
+  pub keeps : KeepsOthers root old new
+  pub sound : IsSound new
+  pub inside : (context : Context) → rank level ≤ rank context → IsPlaceIn (tree_of old root) context place
+      → IsPlaceIn (tree_of new root) context place
+  pub counts : (context : Context) → rank level ≤ rank context → IsPlaceIn (tree_of old root) context place
+      → Counts level (numbers_of old root context place) (numbers_of new root context place) result

@@ -7,6 +7,7 @@ ghost use Rattle.share_cow.specs.Store.{IsLiveRoot, IsSound, den, made, root_at,
 
 mod finding;
 mod own_path;
+mod writing;
 
 use crate::lowering::lower_batch;
 use crate::node::Node;
