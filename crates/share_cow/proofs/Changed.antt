@@ -1,5 +1,5 @@
 -- A forest in which one node at the end of a root's own path holds something else.
-use Rattle.std.proofs.Common.{◌≡◌, ◌≢◌, ◌+◌, ◌-◌, ◌<◌, ◌≤◌, ◌^◌, ◌↔◌, ℕ, true, false, Bool, List, [], ◌∷◌, ◌++◌, length, map, min, Option, Some, None, refl, ap, sym, ◌∙◌, subst, arith, inl, inr}
+use Rattle.std.proofs.Common.{◌≡◌, ◌≢◌, ◌-◌, ◌<◌, ◌≤◌, ◌^◌, ℕ, true, false, Bool, List, ◌∷◌, ◌++◌, map, Option, Some, None, refl, ap, sym, ◌∙◌, subst, arith, inl, inr}
 use Rattle.std.specs.Prelude.{option_map}
 use Rattle.std.proofs.lemmas.Bool.Decides.{eqb_tells}
 use Rattle.shelf.specs.Places.{Places, count_at, item_at, slot_at, with_item, with_slot}
@@ -8,7 +8,7 @@ use Rattle.share_cow.specs.Kept.{KeepsOthers}
 use Rattle.share_cow.specs.Levels.{AllCounted, IsApart, Level, list_at, shared_places, value}
 use Rattle.share_cow.specs.Lowering.{Thins}
 use Rattle.share_cow.specs.Owning.{with_node}
-use Rattle.share_cow.specs.Store.{IsKept, IsSound, Part, Store, as_batch, built, children_of, den, level_of, levels, made, nothing, places_of, shared}
+use Rattle.share_cow.specs.Store.{IsKept, IsSound, Part, Store, as_batch, built, children_of, level_of, levels, made, nothing, shared}
 use Rattle.share_cow.specs.declared.node.Node.{Node}
 use Rattle.share_cow.proofs.Edits.{Edits, alone, edit_apart, edit_counted, edit_end, edit_in_tree, edit_owed, edit_shared, edit_stays}
 use Rattle.share_cow.proofs.Owned.{with_counts, with_item_here, with_item_other, with_names_here, with_names_other, with_thins}

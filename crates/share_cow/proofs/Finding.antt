@@ -1,9 +1,9 @@
 -- The nodes on the way to a place are live.
-use Rattle.std.proofs.Common.{◌≡◌, ◌<◌, ◌≤◌, ◌↔◌, ℕ, zero, suc, refl, List, [], ◌∷◌, length, get_or, map, Some, ap, ◌∙◌, sym, subst, arith}
+use Rattle.std.proofs.Common.{◌≡◌, ◌<◌, ◌↔◌, ℕ, zero, suc, refl, List, [], ◌∷◌, length, get_or, map, Some, ap, ◌∙◌, subst, arith}
 use Rattle.std.specs.Prelude.{IsTrue, cond, nat_le, nat_lt}
 use Rattle.std.proofs.lemmas.Bool.Decides.{nat_tests}
 use Rattle.shelf.specs.Places.{count_at}
-use Rattle.share_cow.specs.Copies.{InTree, end_of, owed}
+use Rattle.share_cow.specs.Copies.{InTree, end_of}
 use Rattle.share_cow.specs.Levels.{list_at}
 use Rattle.share_cow.specs.Store.{IsSound, Store, batch_made, batch_named, children_of, levels, resource_made, root_at, scope_made}
 use Rattle.share_cow.proofs.OwnBatch.{names_live}

@@ -1,9 +1,8 @@
 -- What stands at the places of a tree, and where its nodes lie.
-use Rattle.std.proofs.Common.{◌≡◌, ◌<◌, ◌≤◌, ℕ, zero, suc, List, [], ◌∷◌, length, get_or, map, Option, Some, None, refl, ap, sym, ◌∙◌, subst, arith}
-use Rattle.std.specs.Prelude.{IsSome, filter_map, is_some, slice_get}
+use Rattle.std.proofs.Common.{◌≡◌, ◌<◌, ℕ, zero, suc, List, [], ◌∷◌, length, get_or, map, Option, Some, None, refl, ap, ◌∙◌, subst, arith}
+use Rattle.std.specs.Prelude.{IsSome, filter_map, slice_get}
 use Rattle.pdata_tree.specs.Places.{IsPlaceIn, log_at, resource_at, scope_at, within}
 use Rattle.pdata_tree.specs.declared.batch.Batch.{Batch}
-use Rattle.pdata_tree.specs.declared.place.Context.{Context}
 use Rattle.pdata_tree.specs.declared.place.Context.TheVariants.{Resource, Scope, Log}
 use Rattle.pdata_tree.specs.declared.place.Place.{Place}
 use Rattle.pdata_tree.specs.declared.record.LogRecord.{LogRecord}
@@ -14,13 +13,13 @@ use Rattle.pdata_tree.specs.declared.scope.ScopeTree.{ScopeTree}
 use Rattle.shelf.specs.Places.{Places, count_at, item_at}
 use Rattle.share_cow.specs.Levels.{AllCounted, list_at, value}
 use Rattle.share_cow.specs.Lowering.{Holds}
-use Rattle.share_cow.specs.Store.{as_log, as_resource, as_scope, batch_level, children_of, log_level, log_made, nothing, resource_level, resource_levels, resource_made, scope_level, scope_levels, scope_made}
+use Rattle.share_cow.specs.Store.{as_log, as_resource, as_scope, batch_level, children_of, log_level, log_made, nothing, resource_levels, resource_made, scope_level, scope_levels, scope_made}
 use Rattle.share_cow.specs.Views.{logs_in, logs_or_none, scopes_in, scopes_or_none}
 use Rattle.share_cow.specs.declared.node.Node.{Node}
 use Rattle.share_cow.proofs.Falling.{none_some}
 use Rattle.share_cow.proofs.Lists.{entry_times}
 use Rattle.share_cow.proofs.Looks.{found_value, get_parts, is_log, is_resource, is_scope, live_value, named_logs, named_scopes, some_is}
-use Rattle.share_cow.proofs.Views.{resource_within, resources_are, resources_live, scope_within, scopes_are, scopes_live, tree}
+use Rattle.share_cow.proofs.Views.{resources_are, resources_live, tree}
 
 none_none : (X : Type 0) → IsSome {T = X} None → ⊥
 none_none X h = let there = some_is {Y = X} None h in none_some there.0 there.1

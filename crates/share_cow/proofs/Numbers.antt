@@ -1,10 +1,11 @@
 -- The numbers of a scene after a write.
-use Rattle.std.proofs.Common.{◌≡◌, ◌+◌, ◌-◌, ◌<◌, ◌≤◌, ◌^◌, ℕ, Bool, true, false, List, [], ◌∷◌, ◌++◌, length, get_or, map, Option, Some, None, refl, ap, sym, ◌∙◌, subst, zero, suc, Result, Ok, Err, ◌⊎◌, arith, inl, inr}
+use Rattle.std.proofs.Common.{◌≡◌, ◌+◌, ◌≤◌, ℕ, true, false, List, [], ◌∷◌, ◌++◌, get_or, Some, refl, ap, sym, ◌∙◌, subst, zero, suc, Result, Ok, Err, ◌⊎◌, arith, inl, inr}
 use Rattle.std.specs.Prelude.{IfSome}
 use Rattle.pdata_value.specs.Errors.{eval_fault}
 use Rattle.pdata_value.specs.declared.error.EvalErr.{EvalErr}
 use Rattle.pdata_value.specs.declared.error.EvalStop.{EvalStop}
 use Rattle.pdata_value.specs.declared.error.EvalStop.TheVariants as stop
+use Rattle.pdata_tree.specs.Places.{IsPlaceIn}
 use Rattle.pdata_tree.specs.Scenes.{Counts, Makes, Numbers, NumbersStay, rank}
 use Rattle.pdata_tree.specs.declared.batch.Batch.{Batch}
 use Rattle.pdata_tree.specs.declared.place.Context.{Context}
@@ -12,13 +13,15 @@ use Rattle.pdata_tree.specs.declared.place.Context.TheVariants.{Resource, Scope,
 use Rattle.pdata_tree.specs.declared.place.Place.{Place}
 use Rattle.share_cow.specs.Copies.{InTree, Owns, owed}
 use Rattle.share_cow.specs.Kept.{KeepsOthers}
-use Rattle.share_cow.specs.Levels.{Level, list_at, shared_places, sum_over}
+use Rattle.share_cow.specs.Levels.{Level, list_at, shared_places}
 use Rattle.share_cow.specs.Scene.{Writes, numbers_of, tree_of, way_to, within_context}
-use Rattle.share_cow.specs.Store.{IsSound, Part, Store, batch_named, levels, places_of, root_at, shared, tree_levels}
+use Rattle.share_cow.specs.Store.{IsSound, Store, batch_named, den, levels, places_of, root_at, shared, tree_levels}
+use Rattle.share_cow.specs.Views.{batch_or_empty}
 use Rattle.share_cow.proofs.CopyPaths.{owed_end, owed_on}
 use Rattle.share_cow.proofs.Lists.{sum_below}
 use Rattle.share_cow.proofs.Same.{shared_all}
-use Rattle.share_cow.proofs.Steps.{keeps_refl, levels_shared}
+use Rattle.share_cow.specs.Keeping.{keeps_refl}
+use Rattle.share_cow.proofs.Steps.{levels_shared}
 use Rattle.share_cow.proofs.Ways.{few_end}
 
 -- no more places are shared than there are
@@ -151,8 +154,21 @@ pub unwritten : (s : Store) (root : ℕ) (place : Place) → IsSound s → (L : 
     → IfSome (eval_fault stop) (λ (error : EvalErr). meant (tree_of s root) ≡ Err error) → Writes L root place meant s s (Err stop)
 unwritten s root place sound L meant stop why = record {
   value = (refl, why);
-  keeps = keeps_refl root s (omega arith);
+  keeps = keeps_refl root s;
   sound = sound;
   inside = λ K lk at. at;
   counts = λ K lk at. refused_counts L (numbers_of s root K place) stop;
 }
+
+-- where memory runs out on the way
+pub out_of_memory : (s t : Store) (root : ℕ) (place : Place) (L : Context) (meant : Batch → Result Batch EvalErr) → KeepsOthers root s t → IsSound t → den t root ≡ den s root
+    → Writes L root place meant s t (Err stop.NoMemory)
+out_of_memory s t root place L meant keeps sound same =
+    let tree : tree_of t root ≡ tree_of s root = ap batch_or_empty same in
+    record {
+      value = (tree, tt);
+      keeps = keeps;
+      sound = sound;
+      inside = λ K lk at. subst (λ (b : Batch). IsPlaceIn b K place) (sym tree) at;
+      counts = λ K lk at. keeps.fewer;
+    }

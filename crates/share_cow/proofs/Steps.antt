@@ -1,10 +1,10 @@
 -- A forest after a node was made anew.
-use Rattle.std.proofs.Common.{◌≡◌, ◌+◌, ◌-◌, ◌<◌, ◌≤◌, ◌^◌, ◌↔◌, ℕ, false, true, List, [], ◌∷◌, ◌++◌, length, get_or, take, drop, map, min, Option, Some, refl, ap, ◌∙◌, arith}
+use Rattle.std.proofs.Common.{◌≡◌, ◌+◌, ◌-◌, ◌<◌, ◌≤◌, ◌^◌, ◌↔◌, ℕ, false, true, List, [], ◌∷◌, ◌++◌, length, get_or, take, drop, map, min, Option, Some, ap, arith}
 use Rattle.std.specs.Prelude.{count_by, is_some}
 use Rattle.std.proofs.lemmas.List.{length-take-le}
 use Rattle.shelf.specs.Places.{Places, count_at, item_at}
 use Rattle.share_cow.specs.Copies.{AreRaised, Copies, InTree, Owns, Went, onto}
-use Rattle.share_cow.specs.Kept.{KeepsOthers, SameTree}
+use Rattle.share_cow.specs.Kept.{KeepsOthers}
 use Rattle.share_cow.specs.Levels.{AllCounted, IsApart, Level, list_at, shared_places, sum_over}
 use Rattle.share_cow.specs.Owning.{NodeCopied}
 use Rattle.share_cow.specs.Store.{IsKept, IsLiveRoot, IsSound, Part, Store, as_batch, children_of, den, level_of, levels, made, nothing, places_of, shared, tree_levels}
@@ -18,39 +18,6 @@ levels_shared s r = omega (arith, ap (sum_over (shared_places false (tree_levels
 
 pub levels_places : (s : Store) (r : ℕ) → shared_places true (levels s) r ≡ 1 + places_of s r
 levels_places s r = omega (arith, ap (sum_over (shared_places true (tree_levels s))) (root_list s.roots r))
-
--- what is kept is kept on
-pub keeps_refl : (root : ℕ) (s : Store) → made s ≤ 2 ^ 128 - 1 → KeepsOthers root s s
-keeps_refl root s most = record {
-  others = record {
-    trees = λ other d. record { tree = refl; live = (λ h. h, λ h. h) };
-    shared = λ other d. omega arith;
-  };
-  live = (λ h. h, λ h. h);
-  places = refl;
-  fewer = omega arith;
-  rose = omega (arith, most);
-  entries = refl;
-}
-
-pub same_on : (s t u : Store) (r : ℕ) → SameTree s t r → SameTree t u r → SameTree s u r
-same_on s t u r a b = record {
-  tree = b.tree ∙ a.tree;
-  live = (λ h. a.live.0 (b.live.0 h), λ h. b.live.1 (a.live.1 h));
-}
-
-pub keeps_on : (root : ℕ) (s t u : Store) → KeepsOthers root s t → KeepsOthers root t u → KeepsOthers root s u
-keeps_on root s t u a b = record {
-  others = record {
-    trees = λ other d. same_on s t u other (a.others.trees other d) (b.others.trees other d);
-    shared = λ other d. omega (arith, a.others.shared other d, b.others.shared other d);
-  };
-  live = (λ h. a.live.0 (b.live.0 h), λ h. b.live.1 (a.live.1 h));
-  places = b.places ∙ a.places;
-  fewer = omega (arith, a.fewer, b.fewer);
-  rose = omega (arith, a.rose, b.rose, a.fewer, b.fewer);
-  entries = b.entries ∙ a.entries;
-}
 
 module _ (s t : Store) (root : ℕ) (path : List ℕ) (sound : IsSound s) (w : Went nothing (levels s) (levels t) root path 1)
     (live : (r : ℕ) → IsLiveRoot t r ↔ IsLiveRoot s r) (roots : count_by is_some t.roots ≡ count_by is_some s.roots) (most : t.most ≡ s.most) where

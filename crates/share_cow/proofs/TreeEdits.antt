@@ -1,16 +1,15 @@
 -- The tree of a root after the node at the end of a path stands for something else.
-use Rattle.std.proofs.Common.{◌≡◌, ◌<◌, ◌≤◌, ℕ, zero, suc, List, [], ◌∷◌, length, get_or, set, map, Option, Some, None, refl, ap, sym, ◌∙◌, subst, arith}
-use Rattle.std.specs.Prelude.{IsSome, filter_map, slice_get}
-use Rattle.pdata_tree.specs.declared.batch.Batch.{Batch}
+use Rattle.std.proofs.Common.{◌≡◌, ◌<◌, ℕ, zero, suc, List, [], ◌∷◌, length, set, map, Option, Some, refl, ap, ◌∙◌, arith}
+use Rattle.std.specs.Prelude.{IsSome, filter_map}
 use Rattle.pdata_tree.specs.declared.record.LogRecord.{LogRecord}
 use Rattle.pdata_tree.specs.declared.resource.ResourceNode.{ResourceNode}
 use Rattle.pdata_tree.specs.declared.resource.ResourceTree.{ResourceTree}
 use Rattle.pdata_tree.specs.declared.scope.ScopeNode.{ScopeNode}
 use Rattle.pdata_tree.specs.declared.scope.ScopeTree.{ScopeTree}
-use Rattle.shelf.specs.Places.{Places, count_at, item_at}
-use Rattle.share_cow.specs.Levels.{Level, list_at, named, times, value}
+use Rattle.shelf.specs.Places.{Places, item_at}
+use Rattle.share_cow.specs.Levels.{named, times, value}
 use Rattle.share_cow.specs.Lowering.{Holds}
-use Rattle.share_cow.specs.Store.{Part, as_batch, as_log, as_resource, as_scope, batch_made, batch_named, built, children_of, first_part, log_level, nothing, resource_level, resource_levels, resource_made, scope_level, scope_levels, scope_made}
+use Rattle.share_cow.specs.Store.{Part, as_batch, as_log, as_resource, as_scope, batch_made, built, first_part, log_level, nothing, resource_level, resource_levels, resource_made, scope_level, scope_levels, scope_made}
 use Rattle.share_cow.specs.declared.node.Node.{Node}
 use Rattle.share_cow.proofs.Lists.{times_head}
 use Rattle.share_cow.proofs.Looks.{is_log, is_resource, is_scope, some_is}

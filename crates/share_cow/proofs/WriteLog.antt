@@ -1,6 +1,6 @@
 -- Writes at log records.
-use Rattle.std.proofs.Common.{◌≡◌, ◌+◌, ◌-◌, ◌<◌, ◌≤◌, ◌^◌, ℕ, List, [], ◌∷◌, length, get_or, set, map, Option, Some, None, Result, Ok, Err, refl, ap, sym, ◌∙◌, subst, arith}
-use Rattle.std.specs.Prelude.{option_map, slice_get}
+use Rattle.std.proofs.Common.{◌≡◌, ◌<◌, ◌≤◌, ℕ, List, [], ◌∷◌, set, Some, Result, Ok, Err, refl, ap, sym, ◌∙◌, subst, arith}
+use Rattle.std.specs.Prelude.{slice_get}
 use Rattle.pdata_value.specs.declared.error.EvalErr.{EvalErr}
 use Rattle.pdata_value.specs.declared.error.EvalStop.{EvalStop}
 use Rattle.pdata_value.specs.declared.error.EvalStop.TheVariants as stop
@@ -9,7 +9,7 @@ use Rattle.pdata_tree.specs.Access.{change_at, change_log, change_scope}
 use Rattle.pdata_tree.specs.Changes.{Changes}
 use Rattle.pdata_tree.specs.Fields.{log_takes}
 use Rattle.pdata_tree.specs.Places.{log_at, within}
-use Rattle.pdata_tree.specs.Scenes.{Counts, Makes, rank}
+use Rattle.pdata_tree.specs.Scenes.{Counts, rank}
 use Rattle.pdata_tree.specs.declared.batch.Batch.{Batch}
 use Rattle.pdata_tree.specs.declared.path.PathTo.{PathTo}
 use Rattle.pdata_tree.specs.declared.place.Context.{Context}
@@ -21,20 +21,18 @@ use Rattle.pdata_tree.specs.declared.resource.ResourceTree.{ResourceTree}
 use Rattle.pdata_tree.specs.declared.scope.ScopeNode.{ScopeNode}
 use Rattle.pdata_tree.specs.declared.scope.ScopeTree.{ScopeTree}
 use Rattle.pdata_tree.proofs.Changed.{change_of_item, change_of_part}
-use Rattle.shelf.specs.Places.{Places, count_at, item_at}
+use Rattle.shelf.specs.Places.{count_at, item_at}
 use Rattle.share_cow.specs.Copies.{InTree, OpenPath, Owns, end_of, owed}
 use Rattle.share_cow.specs.Kept.{KeepsOthers}
-use Rattle.share_cow.specs.Levels.{Level}
 use Rattle.share_cow.specs.Scene.{Writes, numbers_of, tree_of, tree_with, way_to}
-use Rattle.share_cow.specs.Store.{IsSound, Store, den, levels, made, batch_level, log_level, log_made, resource_level, scope_level, root_level}
+use Rattle.share_cow.specs.Store.{IsSound, Store, den, levels, batch_level, log_level, log_made, resource_level, scope_level, root_level}
 use Rattle.share_cow.specs.Views.{batch_or_empty}
 use Rattle.share_cow.specs.declared.node.Node.{Node}
 use Rattle.share_cow.proofs.Changed.{Changed, change_keeps, change_sound, content_thins, owns_changed, set_content_of}
-use Rattle.share_cow.proofs.Found.{log_of, scope_of}
 use Rattle.share_cow.proofs.Inside.{in_place, in_tree}
 use Rattle.share_cow.proofs.Numbers.{counted, kept_inside, ok_err, some_same, unwritten}
 use Rattle.share_cow.proofs.OwnBatch.{item_there, way_live}
-use Rattle.share_cow.proofs.Steps.{keeps_on, keeps_refl}
+use Rattle.share_cow.specs.Keeping.{keeps_on, keeps_refl}
 use Rattle.share_cow.proofs.Ways.{open_of, owns_already}
 use Rattle.share_cow.proofs.Written.{l_changed, l_counts, l_found, l_written, r_counts, r_found, r_tree, s_counts, s_found, s_tree}
 
@@ -164,7 +162,7 @@ pub l_in_place : (s : Store) (root : ℕ) (place : Place) (p : ℕ) (sound : IsS
     → Changes (log_takes path.field path.keys v node.content) node.content content result
     → Writes Log root place (tree_with Log path v place) s (record s { logs = set_content_of s.logs p content }) result
 l_in_place s root place p sound there ends own path v result node content is h =
-    l_writes s s root place p sound (owns_already (levels s) root (way_to Log place) p ends own) there (keeps_refl root s (omega arith)) refl content
+    l_writes s s root place p sound (owns_already (levels s) root (way_to Log place) p ends own) there (keeps_refl root s) refl content
     sound path v result node.content (l_content s root place sound there p ends node is) h (λ error e. own)
 
 -- where one had to make it so

@@ -1,5 +1,5 @@
 -- Writes at resources.
-use Rattle.std.proofs.Common.{◌≡◌, ◌+◌, ◌-◌, ◌<◌, ◌≤◌, ◌^◌, ℕ, List, [], ◌∷◌, length, get_or, set, map, Option, Some, None, Result, Ok, Err, refl, ap, sym, ◌∙◌, subst, arith}
+use Rattle.std.proofs.Common.{◌≡◌, ◌<◌, ◌≤◌, ℕ, List, [], ◌∷◌, set, Some, Result, Ok, Err, refl, ap, sym, ◌∙◌, subst, arith}
 use Rattle.std.specs.Prelude.{option_map, slice_get}
 use Rattle.pdata_value.specs.declared.error.EvalErr.{EvalErr}
 use Rattle.pdata_value.specs.declared.error.EvalStop.{EvalStop}
@@ -9,7 +9,7 @@ use Rattle.pdata_tree.specs.Access.{change_at, resource_written}
 use Rattle.pdata_tree.specs.Changes.{Changes}
 use Rattle.pdata_tree.specs.Fields.{resource_takes}
 use Rattle.pdata_tree.specs.Places.{resource_at}
-use Rattle.pdata_tree.specs.Scenes.{Counts, Makes, rank}
+use Rattle.pdata_tree.specs.Scenes.{Counts, rank}
 use Rattle.pdata_tree.specs.declared.batch.Batch.{Batch}
 use Rattle.pdata_tree.specs.declared.path.PathTo.{PathTo}
 use Rattle.pdata_tree.specs.declared.place.Context.{Context}
@@ -18,19 +18,18 @@ use Rattle.pdata_tree.specs.declared.place.Place.{Place}
 use Rattle.pdata_tree.specs.declared.resource.ResourceNode.{ResourceNode}
 use Rattle.pdata_tree.specs.declared.resource.ResourceTree.{ResourceTree}
 use Rattle.pdata_tree.proofs.Changed.{change_of_item, change_of_part}
-use Rattle.shelf.specs.Places.{Places, count_at, item_at}
+use Rattle.shelf.specs.Places.{count_at, item_at}
 use Rattle.share_cow.specs.Copies.{InTree, OpenPath, Owns, end_of, owed}
 use Rattle.share_cow.specs.Kept.{KeepsOthers}
-use Rattle.share_cow.specs.Levels.{Level}
 use Rattle.share_cow.specs.Scene.{Writes, numbers_of, tree_of, tree_with, way_to}
-use Rattle.share_cow.specs.Store.{IsSound, Store, den, levels, made, batch_level, resource_level, resource_made, scope_levels, root_level}
+use Rattle.share_cow.specs.Store.{IsSound, Store, den, levels, batch_level, resource_level, resource_made, scope_levels, root_level}
 use Rattle.share_cow.specs.Views.{batch_or_empty}
 use Rattle.share_cow.specs.declared.node.Node.{Node}
 use Rattle.share_cow.proofs.Changed.{Changed, change_keeps, change_sound, content_thins, owns_changed, set_content_of}
 use Rattle.share_cow.proofs.Inside.{in_place, in_tree}
 use Rattle.share_cow.proofs.Numbers.{counted, kept_inside, ok_err, some_same, unwritten}
 use Rattle.share_cow.proofs.OwnBatch.{item_there, way_live}
-use Rattle.share_cow.proofs.Steps.{keeps_on, keeps_refl}
+use Rattle.share_cow.specs.Keeping.{keeps_on, keeps_refl}
 use Rattle.share_cow.proofs.Ways.{open_of, owns_already}
 use Rattle.share_cow.proofs.Written.{r_changed, r_counts, r_found, r_tree, r_written}
 
@@ -148,7 +147,7 @@ pub r_in_place : (s : Store) (root : ℕ) (place : Place) (p : ℕ) (sound : IsS
     → Changes (resource_takes path.field path.keys v node.content) node.content content result
     → Writes Resource root place (tree_with Resource path v place) s (record s { resources = set_content_of s.resources p content }) result
 r_in_place s root place p sound there ends own path v result node content is h =
-    r_writes s s root place p sound (owns_already (levels s) root (way_to Resource place) p ends own) there (keeps_refl root s (omega arith)) refl content
+    r_writes s s root place p sound (owns_already (levels s) root (way_to Resource place) p ends own) there (keeps_refl root s) refl content
     sound path v result node.content (r_content s root place sound there p ends node is) h (λ error e. own)
 
 -- where one had to make it so

@@ -1,6 +1,6 @@
 -- What stands at a place of a root's tree, and the tree once it holds something else.
-use Rattle.std.proofs.Common.{◌≡◌, ◌+◌, ◌<◌, ◌≤◌, ℕ, zero, suc, List, [], ◌∷◌, length, get_or, set, map, Option, Some, None, refl, ap, sym, ◌∙◌, subst, arith}
-use Rattle.std.specs.Prelude.{IsSome, filter_map, slice_get, slice_index_or}
+use Rattle.std.proofs.Common.{◌≡◌, ◌<◌, ◌≤◌, ℕ, List, [], ◌∷◌, length, get_or, set, map, Option, Some, None, refl, ap, sym, ◌∙◌, arith}
+use Rattle.std.specs.Prelude.{filter_map, slice_get}
 use Rattle.std.proofs.lemmas.List.{length-map}
 use Rattle.pdata_tree.specs.declared.batch.Batch.{Batch}
 use Rattle.pdata_tree.specs.declared.record.LogRecord.{LogRecord}
@@ -8,26 +8,23 @@ use Rattle.pdata_tree.specs.declared.resource.ResourceNode.{ResourceNode}
 use Rattle.pdata_tree.specs.declared.resource.ResourceTree.{ResourceTree}
 use Rattle.pdata_tree.specs.declared.scope.ScopeNode.{ScopeNode}
 use Rattle.pdata_tree.specs.declared.scope.ScopeTree.{ScopeTree}
-use Rattle.shelf.specs.Places.{Places, count_at, item_at}
-use Rattle.share_cow.specs.Copies.{InTree, OpenPath, end_of, owed}
-use Rattle.share_cow.specs.Levels.{Level, list_at, times, value}
+use Rattle.shelf.specs.Places.{count_at, item_at}
+use Rattle.share_cow.specs.Copies.{OpenPath}
+use Rattle.share_cow.specs.Levels.{list_at, value}
 use Rattle.share_cow.specs.Lowering.{Holds}
 use Rattle.share_cow.specs.Scene.{tree_of}
-use Rattle.share_cow.specs.Store.{IsSound, Part, Store, as_batch, as_log, as_resource, as_scope, batch_level, batch_made, batch_named, built, children_of, den, first_part, levels, log_level, log_made, nothing, resource_level, resource_levels, resource_made, root_at, root_level, scope_level, scope_levels, scope_made, tree_levels}
+use Rattle.share_cow.specs.Store.{IsSound, Part, Store, as_batch, as_log, as_resource, as_scope, batch_level, batch_made, batch_named, built, children_of, first_part, levels, log_level, log_made, nothing, resource_level, resource_levels, resource_made, root_at, root_level, scope_level, scope_levels, scope_made, tree_levels}
 use Rattle.share_cow.specs.Views.{batch_or_empty, tree_at}
 use Rattle.share_cow.specs.declared.node.Node.{Node}
 use Rattle.share_cow.proofs.Changed.{Changed, changed_by, content_edits, content_item, content_names, set_content_of}
 use Rattle.share_cow.proofs.Edits.{Edits, edit_replaces}
 use Rattle.share_cow.proofs.Found.{l_held, l_live, r_live, s_held, s_live}
-use Rattle.share_cow.proofs.Lists.{entry_times}
-use Rattle.share_cow.proofs.Looks.{get_parts, is_log, is_resource, is_scope, live_value}
+use Rattle.share_cow.proofs.Looks.{get_parts, is_log, is_resource, is_scope}
 use Rattle.share_cow.proofs.OwnBatch.{item_there}
 use Rattle.share_cow.proofs.Share.{batch_live}
-use Rattle.share_cow.proofs.Slots.{names, names_at}
 use Rattle.share_cow.proofs.Table.{root_list}
 use Rattle.share_cow.proofs.TreeEdits.{batch_set, resource_set, scope_set}
 use Rattle.share_cow.proofs.Views.{resources_are, resources_live, root_tree}
-use Rattle.share_cow.proofs.Ways.{open_of}
 
 named_some : (o : Option ℕ) → 0 < length (batch_named o) → o ≡ Some (get_or (batch_named o) 0 0)
 named_some None h = absurd (omega arith)

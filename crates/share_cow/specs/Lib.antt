@@ -5,6 +5,7 @@ pub mod Kept
 pub mod Views
 pub mod Emptied
 pub mod Scene
+pub mod Keeping
 -- How a shared node is made anew.
 pub mod Copies
 -- Lists of roots.

@@ -70,3 +70,9 @@ pub record Writes (level : Context) (root : ℕ) (place : Place) (meant : Batch 
       → IsPlaceIn (tree_of new root) context place
   pub counts : (context : Context) → rank level ≤ rank context → IsPlaceIn (tree_of old root) context place
       → Counts level (numbers_of old root context place) (numbers_of new root context place) result
+
+-- What a scene keeps of the forest that it is lent: all that writes through its root keep, and that
+-- its place is in the root's tree.
+pub record KeepsScene (root : ℕ) (context : Context) (place : Place) (old new : Store) : Type 0 where
+  pub others : KeepsOthers root old new
+  pub stands : Stands old root context place → Stands new root context place

@@ -9,11 +9,13 @@ mod node;
 mod owning;
 mod planting;
 mod root;
+mod scene;
 mod view;
 
 pub use forest::Forest;
 pub use laws::{a_way_makes_what_it_owes, nothing_is_left_without_roots};
 pub use root::{Root, Roots};
+pub use scene::ForestScene;
 pub use view::RootView;
 
 #[cfg(test)]

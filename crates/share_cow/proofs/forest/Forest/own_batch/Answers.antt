@@ -1,7 +1,7 @@
 use Rattle.std.proofs.Common.{◌∙◌, refl, arith}
 use Rattle.share_cow.specs.Store.{resource_level}
 use Rattle.share_cow.proofs.OwnBatch.{batch_keeps, batch_kept, batch_owns, batch_sound, batch_tree, child_room, copy_names, named_live}
-use Rattle.share_cow.proofs.Steps.{keeps_refl}
+use Rattle.share_cow.specs.Keeping.{keeps_refl}
 use Rattle.share_cow.proofs.forest.Forest.own_batch.Goals as goal
 
 pub returns-then-count-le1-clause-owns : goal.returns-then-count-le1-clause-owns
@@ -13,7 +13,7 @@ pub returns-in_err-copy-clause-tree : goal.returns-in_err-copy-clause-tree
 returns-in_err-copy-clause-tree c = rw (← c.self.view_is, c.in_err-copy.ensures.err) refl
 
 pub returns-in_err-copy-clause-keeps : goal.returns-in_err-copy-clause-keeps
-returns-in_err-copy-clause-keeps c = rw (← c.self.view_is, c.in_err-copy.ensures.err) (keeps_refl c.args.root.now _ (omega arith))
+returns-in_err-copy-clause-keeps c = rw (← c.self.view_is, c.in_err-copy.ensures.err) (keeps_refl c.args.root.now _)
 
 pub raise_all-requires-clause-live : goal.raise_all-requires-clause-live
 raise_all-requires-clause-live c =

@@ -1,6 +1,6 @@
 use Rattle.std.proofs.Common.{◌∙◌, arith}
 use Rattle.share_cow.proofs.OwnLog.{log_inside, log_keeps, log_kept, log_owns, log_parent, log_sound, log_tree}
-use Rattle.share_cow.proofs.Steps.{keeps_on}
+use Rattle.share_cow.specs.Keeping.{keeps_on}
 use Rattle.share_cow.proofs.forest.Forest.own_log.Goals as goal
 
 pub own_scope-requires : goal.own_scope-requires

@@ -2,7 +2,7 @@ use Rattle.std.proofs.Common.{◌∙◌, arith}
 use Rattle.share_cow.specs.Store.{scope_level}
 use Rattle.share_cow.proofs.OwnBatch.{child_room, copy_names, named_live, way_live}
 use Rattle.share_cow.proofs.OwnResource.{resource_inside, resource_keeps, resource_kept, resource_owns, resource_parent, resource_sound, resource_tree}
-use Rattle.share_cow.proofs.Steps.{keeps_on}
+use Rattle.share_cow.specs.Keeping.{keeps_on}
 use Rattle.share_cow.proofs.forest.Forest.own_resource.Goals as goal
 
 pub own_batch-requires : goal.own_batch-requires

@@ -2,7 +2,7 @@ use Rattle.std.proofs.Common.{◌∙◌, arith}
 use Rattle.share_cow.specs.Store.{log_level}
 use Rattle.share_cow.proofs.OwnBatch.{child_room, copy_names, named_live}
 use Rattle.share_cow.proofs.OwnScope.{scope_inside, scope_keeps, scope_kept, scope_owns, scope_parent, scope_sound, scope_tree}
-use Rattle.share_cow.proofs.Steps.{keeps_on}
+use Rattle.share_cow.specs.Keeping.{keeps_on}
 use Rattle.share_cow.proofs.forest.Forest.own_scope.Goals as goal
 
 pub own_resource-requires : goal.own_resource-requires

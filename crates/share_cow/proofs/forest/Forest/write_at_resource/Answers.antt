@@ -30,23 +30,23 @@ get-requires c =
 
 pub set_content-requires : goal.set_content-requires
 set_content-requires c =
-    let owns = rw (← c.self-in-Ok.view_is) at c.in_ok-resource-in-Ok.ensures.owns in
-    r_found_live _ c.args.root.now c.args.place c.in_ok-resource-in-Ok.resource c.self-in-Ok.invariant.1 (owns.longer [] c.requires).0 owns.ends
+    let owns = rw (← c.self-in-Ok.view_is) at c.in-Ok-own_resource.ensures.owns in
+    r_found_live _ c.args.root.now c.args.place c.in-Ok-own_resource.resource c.self-in-Ok.invariant.1 (owns.longer [] c.requires).0 owns.ends
 
-pub returns-in_ok-resource-in-Ok : goal.returns-in_ok-resource-in-Ok
-returns-in_ok-resource-in-Ok c =
+pub returns-in-Ok-own_resource : goal.returns-in-Ok-own_resource
+returns-in-Ok-own_resource c =
     let there = rw (← c.self.view_is) at c.requires in
     let ends = rw (← c.self.view_is) at c.find_resource-found.ensures.ends in
-    let owns = rw (← c.self.view_is, ← c.self-in-Ok.view_is) at c.in_ok-resource-in-Ok.ensures.owns in
-    let keeps = rw (← c.self.view_is, ← c.self-in-Ok.view_is) at c.in_ok-resource-in-Ok.ensures.keeps in
-    let tree = rw (← c.self.view_is, ← c.self-in-Ok.view_is) at c.in_ok-resource-in-Ok.ensures.tree in
+    let owns = rw (← c.self.view_is, ← c.self-in-Ok.view_is) at c.in-Ok-own_resource.ensures.owns in
+    let keeps = rw (← c.self.view_is, ← c.self-in-Ok.view_is) at c.in-Ok-own_resource.ensures.keeps in
+    let tree = rw (← c.self.view_is, ← c.self-in-Ok.view_is) at c.in-Ok-own_resource.ensures.tree in
     let written = rw (c.as_slice-keys.ensures, c.in_ok-content.ensures) at c.in-Ok.ensures in
     rw (← c.self.view_is, c.set_content.ensures)
-    (r_made _ _ c.args.root.now c.args.place c.find_resource-found.result.0 c.in_ok-resource-in-Ok.resource c.self.invariant.1 c.self-in-Ok.invariant.1 owns there keeps tree ends
+    (r_made _ _ c.args.root.now c.args.place c.find_resource-found.result.0 c.in-Ok-own_resource.resource c.self.invariant.1 c.self-in-Ok.invariant.1 owns there keeps tree ends
     c.args.path.now c.args.value c.get.result.now c.write_resource-2.new.node c.get.ensures written)
 
-pub invariant_of-self-in-Ok : goal.invariant_of-self-in-Ok
-invariant_of-self-in-Ok c = (c.self-in-Ok.invariant.0, (returns-in_ok-resource-in-Ok c).sound)
+pub invariant_of-self-in-Ok-own_resource : goal.invariant_of-self-in-Ok-own_resource
+invariant_of-self-in-Ok-own_resource c = (c.self-in-Ok.invariant.0, (returns-in-Ok-own_resource c).sound)
 
 pub returns-in-Err : goal.returns-in-Err
 returns-in-Err c =

@@ -1,5 +1,4 @@
-use Rattle.std.proofs.Common.{length, ap, arith, ◌∙◌}
-use Rattle.std.specs.Prelude.{option_map}
+use Rattle.std.proofs.Common.{arith, ◌∙◌}
 use Rattle.share_cow.proofs.Found.{l_live, log_at_is, log_in, log_is, r_live, resource_in, resource_of_scope, s_live, scope_in, scope_of_log}
 use Rattle.share_cow.proofs.Views.{logs_count, resource_within, scope_within, tree}
 use Rattle.share_cow.proofs.view.RootView.log.Goals as goal

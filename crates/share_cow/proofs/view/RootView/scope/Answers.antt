@@ -1,4 +1,4 @@
-use Rattle.std.proofs.Common.{length, ap, arith, ◌∙◌}
+use Rattle.std.proofs.Common.{ap, ◌∙◌}
 use Rattle.std.specs.Prelude.{option_map}
 use Rattle.share_cow.proofs.Found.{r_live, resource_in, resource_of_scope, s_live, scope_at_is, scope_in, scope_is}
 use Rattle.share_cow.proofs.Views.{resource_within, scope_within, tree}
