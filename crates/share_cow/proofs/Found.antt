@@ -1,6 +1,8 @@
 -- What stands at the places of a tree, and where its nodes lie.
-use Rattle.std.proofs.Common.{◌≡◌, ◌<◌, ℕ, zero, suc, List, [], ◌∷◌, length, get_or, map, Option, Some, None, refl, ap, ◌∙◌, subst, arith}
-use Rattle.std.specs.Prelude.{IsSome, filter_map, slice_get}
+use Rattle.std.proofs.Common.{◌↔◌, ◌≡◌, ◌<◌, ℕ, zero, suc, List, [], ◌∷◌, length, get_or, map, Option, Some, None, refl, ap, ◌∙◌, subst, sym, arith}
+use Rattle.std.specs.Prelude.{IsSome, IsTrue, nat_lt, filter_map, slice_get}
+use Rattle.std.proofs.lemmas.Bool.{lt-ltb}
+use Rattle.std.proofs.lemmas.Bool.Decides.{nat_tests}
 use Rattle.pdata_tree.specs.Places.{IsPlaceIn, log_at, resource_at, scope_at, within}
 use Rattle.pdata_tree.specs.declared.batch.Batch.{Batch}
 use Rattle.pdata_tree.specs.declared.place.Context.TheVariants.{Resource, Scope, Log}
@@ -28,6 +30,21 @@ pub inside : {X : Type 0} (xs : List X) (i : ℕ) → IsSome (slice_get xs i) �
 inside {X} [] i h = absurd (none_none X h)
 inside (x ∷ xs) zero h = omega arith
 inside (x ∷ xs) (suc i) h = omega (arith, inside xs i h)
+
+pub outside : {X : Type 0} (xs : List X) (i : ℕ) → i < length xs → IsSome (slice_get xs i)
+outside [] i h = absurd (omega arith)
+outside (x ∷ xs) zero h = refl
+outside (x ∷ xs) (suc i) h = outside xs i (omega arith)
+
+test_true : (i n : ℕ) → IsTrue (nat_lt i n) → i < n
+test_true i n h = grind (arith, nat_tests)
+
+-- an index within a list
+pub tested : {X : Type 0} (xs : List X) (i n : ℕ) → n ≡ length xs → IsTrue (nat_lt i n) ↔ IsSome (slice_get xs i)
+tested xs i n is = (
+  λ h. outside xs i (subst (λ (k : ℕ). i < k) is (test_true i n h)),
+  λ h. lt-ltb i n (subst (λ (k : ℕ). i < k) (sym is) (inside xs i h)),
+)
 
 pub scope_of : (o : Option ResourceTree) (j : ℕ) → within (λ r. slice_get r.scopes j) o ≡ slice_get (scopes_or_none o) j
 scope_of None j = refl

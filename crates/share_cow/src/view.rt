@@ -1,6 +1,6 @@
 //! What a root's tree holds, seen where it stands.
 
-ghost use Rattle.std.specs.Prelude.{◌≡◌, ◌<◌, ◌∷◌, IfOk, Some, length, option_map};
+ghost use Rattle.std.specs.Prelude.{◌≡◌, ◌<◌, ◌↔◌, ◌∷◌, IsTrue, IfOk, Some, length, option_map};
 ghost use Rattle.pdata_tree.specs.Places.{IsPlaceIn, log_at, resource_at, scope_at};
 ghost use Rattle.pdata_tree.specs.Tree.{IsCountable, records};
 ghost use Rattle.shelf.specs.Places.{IsLive};
@@ -101,6 +101,47 @@ impl<'a> RootView<'a> {
         let scopes = children_at(self.resources, resources[resource as usize]);
         let logs = children_at(self.scopes, scopes[scope as usize]);
         logs.len() as u32
+    }
+
+    /// Whether a place is in the tree.
+    pub fn has(&self, context: Context, place: Place) -> bool
+        ensures { IsTrue result ↔ IsPlaceIn self.now context place }
+    {
+        match context {
+            Context::Resource => self.has_resource(place),
+            Context::Scope => self.has_scope(place),
+            Context::Log => self.has_log(place),
+        }
+    }
+
+    fn has_resource(&self, place: Place) -> bool
+        ensures { IsTrue result ↔ IsPlaceIn self.now Context.Resource place }
+    {
+        let resources = children_at(self.batches, self.batch);
+        (place.resource as usize) < resources.len()
+    }
+
+    fn has_scope(&self, place: Place) -> bool
+        ensures { IsTrue result ↔ IsPlaceIn self.now Context.Scope place }
+    {
+        if !self.has_resource(place) {
+            return false;
+        }
+        let resource = child_at(self.batches, self.batch, place.resource);
+        let scopes = children_at(self.resources, resource);
+        (place.scope as usize) < scopes.len()
+    }
+
+    fn has_log(&self, place: Place) -> bool
+        ensures { IsTrue result ↔ IsPlaceIn self.now Context.Log place }
+    {
+        if !self.has_scope(place) {
+            return false;
+        }
+        let resource = child_at(self.batches, self.batch, place.resource);
+        let scope = child_at(self.resources, resource, place.scope);
+        let logs = children_at(self.scopes, scope);
+        (place.log as usize) < logs.len()
     }
 
     /// What a resource holds itself.
