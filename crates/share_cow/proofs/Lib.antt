@@ -39,3 +39,5 @@ pub mod WriteResource
 pub mod WriteScope
 pub mod WriteLog
 pub mod Inside
+pub mod Flagged
+pub mod Selected

@@ -10,6 +10,7 @@ ghost use Rattle.share_cow.specs.Store.{IsLiveRoot, IsSound, den, made, root_at,
 mod finding;
 mod own_path;
 mod reading;
+mod selecting;
 mod writing;
 
 use crate::lowering::lower_batch;
@@ -19,6 +20,7 @@ use crate::root::Root;
 use crate::scene::ForestScene;
 use crate::view::RootView;
 use pdata_tree::{Batch, Context, LogRecord, Place, ResourceNode, ScopeNode};
+pub use selecting::Flags;
 use shelf::Shelf;
 use slab::Slab;
 use std::alloc::{AllocError, Global};

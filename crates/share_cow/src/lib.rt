@@ -12,7 +12,7 @@ mod root;
 mod scene;
 mod view;
 
-pub use forest::Forest;
+pub use forest::{Flags, Forest};
 pub use laws::{a_way_makes_what_it_owes, nothing_is_left_without_roots};
 pub use root::{Root, Roots};
 pub use scene::ForestScene;
