@@ -1,5 +1,5 @@
 -- The way of a write down its path, as steps that each do nothing or copy one node.
-use Rattle.std.proofs.Common.{◌≡◌, ◌+◌, ◌<◌, ◌≤◌, ℕ, suc, List, [], ◌∷◌, ◌++◌, Option, Some, None, length, get_or, take, refl, ap, sym, ◌∙◌, subst, arith}
+use Rattle.std.proofs.Common.{◌≡◌, ◌+◌, ◌≤◌, ℕ, suc, List, [], ◌∷◌, ◌++◌, Option, Some, None, length, get_or, take, refl, ap, sym, ◌∙◌, subst, arith}
 use Rattle.std.proofs.lemmas.List.{length-append}
 use Rattle.share_cow.specs.Copies.{Copies, InTree, OpenPath, Went, onto, owed}
 use Rattle.share_cow.specs.Levels.{AllCounted, Counted, IsApart, Level, list_at, stands}
@@ -7,7 +7,7 @@ use Rattle.share_cow.proofs.CopyApart.{stays_apart}
 use Rattle.share_cow.proofs.CopyCounts.{all_counted}
 use Rattle.share_cow.proofs.CopyExact.{one_less}
 use Rattle.share_cow.proofs.CopyPaths.{owed_end, owed_falls, owed_on, path_stands}
-use Rattle.share_cow.proofs.CopySharing.{BelowCounted, never_more, shared}
+use Rattle.share_cow.proofs.CopySharing.{BelowCounted, never_more, same_size, shared}
 use Rattle.share_cow.proofs.CopyTrees.{same_value}
 
 module _ {X : Type 0} where
@@ -34,6 +34,7 @@ module _ {X : Type 0} where
     never_more = λ r. omega arith;
     less = omega arith;
     pays = omega arith;
+    size = λ r. refl;
   }
 
   pub went_on : {none : X} {ls ls2 ls3 : List (Level X)} {root : ℕ} {path : List ℕ} {made more : ℕ} → Went none ls ls2 root path made → Went none ls2 ls3 root path more → Went none ls ls3 root path (made + more)
@@ -44,6 +45,7 @@ module _ {X : Type 0} where
     never_more = λ r. omega (arith, a.never_more r, b.never_more r);
     less = omega (arith, a.less, b.less);
     pays = omega (arith, a.pays, b.pays);
+    size = λ r. b.size r ∙ a.size r;
   }
 
   pub went_by_copy : {parent old new : ℕ} {before after : List ℕ} {k m k2 m2 : Level X} {b b2 : Option (Level X)} → Copies parent old new before after k m k2 m2 b b2 →
@@ -61,6 +63,7 @@ module _ {X : Type 0} where
         never_more = λ r. never_more c below upper lower above r;
         less = one_less c below upper lower one above root once (path_stands above root front parent path);
         pays = owed_falls c below lower one above root front rest path there;
+        size = λ r. same_size c below upper above r;
       }
 
   -- at the end of an open path nothing is owed

@@ -19,7 +19,7 @@ live_slot : {T : Type 0} (slot : Option (T × ℕ)) → 0 < count_of slot → op
 live_slot None h e = absurd (omega arith)
 live_slot (Some kept) h e = absurd (omega (arith, ap weight e))
 
-none_some : {T : Type 0} (x : T) → None ≡ Some x → ⊥
+pub none_some : {T : Type 0} (x : T) → None ≡ Some x → ⊥
 none_some x e = absurd (omega (arith, ap weight e))
 
 module _ {X : Type 0} where

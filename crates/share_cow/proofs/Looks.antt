@@ -1,5 +1,5 @@
 -- What a live node stands for, and what its list says of it.
-use Rattle.std.proofs.Common.{◌≡◌, ◌+◌, ◌<◌, ◌≤◌, ℕ, zero, suc, List, [], ◌∷◌, ◌++◌, length, get_or, map, Option, Some, None, refl, ap, sym, ◌∙◌, arith, take, inl, inr, ◌⊎◌}
+use Rattle.std.proofs.Common.{◌≡◌, ◌+◌, ◌<◌, ◌≤◌, ℕ, zero, suc, List, [], ◌∷◌, ◌++◌, length, get_or, map, Option, Some, None, refl, ap, ◌∙◌, arith, take, inl, inr, ◌⊎◌}
 use Rattle.std.specs.Prelude.{IsSome, cond, filter_map, option_map, slice_get}
 use Rattle.std.proofs.lemmas.List.{take_more}
 use Rattle.pdata_tree.specs.Tree.{nodes_of_resources, nodes_of_scopes, records_of_resources, records_of_scopes}
@@ -70,7 +70,7 @@ tree_is batches below b live = rw (live_value batch_made batches below b live) r
 
 -- log records at places
 module _ (logs : Places (Node LogRecord)) (qs : List ℕ) (live : Holds qs (log_level logs)) where
-  is_log : (q : ℕ) → 0 < times q qs → IsSome (as_log (value nothing (log_level logs ∷ []) q))
+  pub is_log : (q : ℕ) → 0 < times q qs → IsSome (as_log (value nothing (log_level logs ∷ []) q))
   is_log q h = rw (live_value log_made logs [] q (omega (arith, h, live q))) refl
 
   pub logs_length : length (filter_map as_log (map (value nothing (log_level logs ∷ [])) qs)) ≡ length qs
@@ -81,7 +81,7 @@ module _ (scopes : Places (Node ScopeNode)) (logs : Places (Node LogRecord)) (co
   pub named_logs : (q : ℕ) → Holds (list_at (map children_of scopes.slots) q) (log_level logs)
   named_logs q p = omega (arith, counted p, times_at p (map children_of scopes.slots) q)
 
-  is_scope : (qs : List ℕ) → Holds qs (scope_level scopes) → (q : ℕ) → 0 < times q qs → IsSome (as_scope (value nothing (scope_levels scopes logs) q))
+  pub is_scope : (qs : List ℕ) → Holds qs (scope_level scopes) → (q : ℕ) → 0 < times q qs → IsSome (as_scope (value nothing (scope_levels scopes logs) q))
   is_scope qs live q h = rw (live_value scope_made scopes (log_level logs ∷ []) q (omega (arith, h, live q))) refl
 
   pub scopes_length : (qs : List ℕ) → Holds qs (scope_level scopes) → length (filter_map as_scope (map (value nothing (scope_levels scopes logs)) qs)) ≡ length qs
@@ -114,7 +114,7 @@ module _ (resources : Places (Node ResourceNode)) (scopes : Places (Node ScopeNo
   pub named_scopes : (q : ℕ) → Holds (list_at (map children_of resources.slots) q) (scope_level scopes)
   named_scopes q p = omega (arith, upper p, times_at p (map children_of resources.slots) q)
 
-  is_resource : (qs : List ℕ) → Holds qs (resource_level resources) → (q : ℕ) → 0 < times q qs → IsSome (as_resource (value nothing (resource_levels resources scopes logs) q))
+  pub is_resource : (qs : List ℕ) → Holds qs (resource_level resources) → (q : ℕ) → 0 < times q qs → IsSome (as_resource (value nothing (resource_levels resources scopes logs) q))
   is_resource qs live q h = rw (live_value resource_made resources (scope_levels scopes logs) q (omega (arith, h, live q))) refl
 
   pub resources_length : (qs : List ℕ) → Holds qs (resource_level resources) → length (filter_map as_resource (map (value nothing (resource_levels resources scopes logs)) qs)) ≡ length qs

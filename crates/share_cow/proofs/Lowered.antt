@@ -33,6 +33,12 @@ module _ {T : Type 0} where
   count_less None = refl
   count_less (Some kept) = refl
 
+  pub many_item : (slot : Option (T × ℕ)) → 1 < count_of slot → option_map (λ kept. kept.0) (lowered slot) ≡ option_map (λ kept. kept.0) slot
+  many_item slot h = ap (option_map (λ kept. kept.0)) (many_slot slot h) ∙ item_kept slot
+
+  pub many_count : (slot : Option (T × ℕ)) → 1 < count_of slot → count_of (lowered slot) + 1 ≡ count_of slot
+  many_count slot h = omega (arith, h, ap count_of (many_slot slot h), count_less slot)
+
   pub given_many : (slot : Option (T × ℕ)) → 1 < count_of slot → given_up slot ≡ None
   given_many None h = refl
   given_many (Some kept) h = rw (lt-ltb 1 kept.1 h) refl

@@ -1,11 +1,11 @@
 -- New nodes are shared with nobody, and where no root is live no node is left.
-use Rattle.std.proofs.Common.{◌≡◌, ◌<◌, ◌≤◌, ℕ, zero, suc, false, List, [], ◌∷◌, refl, sym, ◌∙◌, arith, inl, inr}
+use Rattle.std.proofs.Common.{◌≡◌, ◌≤◌, ℕ, zero, suc, false, List, [], ◌∷◌, refl, ◌∙◌, arith, inl, inr}
 use Rattle.std.specs.Prelude.{nat_lt}
 use Rattle.share_cow.specs.Emptied.{HoldsNothing}
-use Rattle.share_cow.specs.Levels.{AllCounted, Counted, Level, list_at, named, shared_places, times}
+use Rattle.share_cow.specs.Levels.{AllCounted, Counted, Level, list_at, shared_places}
 use Rattle.share_cow.specs.Lowering.{AllAgree}
 use Rattle.share_cow.specs.Planting.{AllMore}
-use Rattle.share_cow.specs.Store.{IsSound, Part, Store, batch_level, batch_made, log_level, log_made, resource_level, resource_made, scope_level, scope_made, spare}
+use Rattle.share_cow.specs.Store.{IsSound, Part, Store, batch_level, batch_made, log_level, resource_level, resource_made, scope_level, scope_made, spare}
 use Rattle.share_cow.proofs.Apart.{new_children, sum_none}
 use Rattle.share_cow.proofs.Growing.{AllTidy, New, Tidy, tidy_level}
 use Rattle.share_cow.proofs.Lists.{named_same}

@@ -1,5 +1,5 @@
 -- What the lists of a tree's nodes say of the tree.
-use Rattle.std.proofs.Common.{◌≡◌, ◌<◌, ◌^◌, ℕ, List, [], ◌∷◌, Some, refl, length, get_or, map, ap, sym, ◌∙◌, arith}
+use Rattle.std.proofs.Common.{◌≡◌, ◌<◌, ◌^◌, ℕ, List, ◌∷◌, Some, refl, length, get_or, map, ap, sym, ◌∙◌, arith}
 use Rattle.std.specs.Prelude.{filter_map, slice_get}
 use Rattle.pdata_tree.specs.Tree.{IsCountable, records, records_of_resources}
 use Rattle.pdata_tree.specs.declared.batch.Batch.{Batch}
@@ -9,7 +9,7 @@ use Rattle.pdata_tree.specs.declared.resource.ResourceTree.{ResourceTree}
 use Rattle.pdata_tree.specs.declared.scope.ScopeNode.{ScopeNode}
 use Rattle.pdata_tree.specs.declared.scope.ScopeTree.{ScopeTree}
 use Rattle.shelf.specs.Places.{Places, count_at, item_at}
-use Rattle.share_cow.specs.Levels.{AllCounted, Level, list_at, times, value}
+use Rattle.share_cow.specs.Levels.{AllCounted, Level, list_at, value}
 use Rattle.share_cow.specs.Lowering.{Holds}
 use Rattle.share_cow.specs.Store.{IsSound, Part, Store, as_batch, as_resource, as_scope, batch_level, batch_made, batch_named, children_of, den, first_part, nothing, resource_level, resource_levels, root_at, scope_level, scope_levels, tree_levels}
 use Rattle.share_cow.specs.Views.{batch_or_empty, grandchildren_in, logs_in, logs_or_none, scopes_in, scopes_or_none, tree_at}
@@ -50,11 +50,11 @@ module _ (batches : Places (Node Unit)) (resources : Places (Node ResourceNode))
     pub resource_live : 0 < count_at resources (get_or (list_at (map children_of batches.slots) b) i 0)
     resource_live = omega (arith, resources_live (get_or (list_at (map children_of batches.slots) b) i 0), entry_times (list_at (map children_of batches.slots) b) i resource_within)
 
-    scopes_are : scopes_in tree i ≡ filter_map as_scope (map (value nothing (scope_levels scopes logs)) (list_at (map children_of resources.slots) (get_or (list_at (map children_of batches.slots) b) i 0)))
+    pub scopes_are : scopes_in tree i ≡ filter_map as_scope (map (value nothing (scope_levels scopes logs)) (list_at (map children_of resources.slots) (get_or (list_at (map children_of batches.slots) b) i 0)))
     scopes_are = ap (λ (rs : List ResourceTree). scopes_or_none (slice_get rs i)) resources_are
         ∙ scopes_found resources scopes logs counted.1.0 counted.1.1.0 (list_at (map children_of batches.slots) b) resources_live i resource_within
 
-    scopes_live : Holds (list_at (map children_of resources.slots) (get_or (list_at (map children_of batches.slots) b) i 0)) (scope_level scopes)
+    pub scopes_live : Holds (list_at (map children_of resources.slots) (get_or (list_at (map children_of batches.slots) b) i 0)) (scope_level scopes)
     scopes_live = named_scopes resources scopes logs counted.1.0 counted.1.1.0 (get_or (list_at (map children_of batches.slots) b) i 0)
 
     pub scopes_count : length (list_at (map children_of resources.slots) (get_or (list_at (map children_of batches.slots) b) i 0)) ≡ length (scopes_in tree i)

@@ -1,5 +1,5 @@
 -- A shared node is made anew for one of those who name it.
-use Rattle.std.specs.Prelude.{◌≡◌, ◌≢◌, ◌+◌, ◌<◌, ◌≤◌, ◌==◌, ◌++◌, ◌∷◌, [], ℕ, nat_lt, cond, false, List, Option, Some, None, length, slice_index_or}
+use Rattle.std.specs.Prelude.{◌≡◌, ◌≢◌, ◌+◌, ◌<◌, ◌≤◌, ◌==◌, ◌++◌, ◌∷◌, [], ℕ, nat_lt, cond, false, true, List, Option, Some, None, length, slice_index_or}
 use Rattle.share_cow.specs.Levels.{AllCounted, IsApart, Level, list_at, shared_places, sum_over, times, value}
 
 module _ {X : Type 0} where
@@ -75,6 +75,12 @@ module _ {X : Type 0} where
   owed (l ∷ ls) p (i ∷ is) =
       cond (nat_lt 1 (l.count p)) (2 + length is) (owed ls (slice_index_or (list_at l.children p) i 0) is)
 
+  -- the place at the end of a path
+  abbrev pub end_of : List (Level X) → ℕ → List ℕ → ℕ
+  end_of [] p is = p
+  end_of (l ∷ ls) p [] = p
+  end_of (l ∷ ls) p (i ∷ is) = end_of ls (slice_index_or (list_at l.children p) i 0) is
+
   -- Every count is right, every node of the first level stands for what it stood for, and none has
   -- more shared places; those of the root, and what its path owes, fell by the number of nodes that
   -- were made.
@@ -85,3 +91,13 @@ module _ {X : Type 0} where
     pub never_more : (r : ℕ) → shared_places false ms r ≤ shared_places false ls r
     pub less : shared_places false ms root + made ≡ shared_places false ls root
     pub pays : owed ms root path + made ≡ owed ls root path
+    pub size : (r : ℕ) → shared_places true ms r ≡ shared_places true ls r
+
+  -- A path is the root's own and ends at a place: no node on it counts more than once. So many
+  -- places less of the root are shared as the path owed, and a longer path owes so much less.
+  pub record Owns (ls ms : List (Level X)) (root : ℕ) (path : List ℕ) (place : ℕ) : Type 0 where
+    pub ends : end_of ms root path ≡ place
+    pub own : owed ms root path ≡ 0
+    pub left : shared_places false ms root + owed ls root path ≡ shared_places false ls root
+    pub longer : (rest : List ℕ) → InTree ls root (path ++ rest) → InTree ms root (path ++ rest)
+        × (owed ms root (path ++ rest) + owed ls root path ≡ owed ls root (path ++ rest))

@@ -1,6 +1,6 @@
 -- What calls keep of a forest.
-use Rattle.std.specs.Prelude.{◌≡◌, ◌≢◌, ◌≤◌, ◌↔◌, ℕ}
-use Rattle.share_cow.specs.Store.{Store, IsLiveRoot, den, made, shared, spare}
+use Rattle.std.specs.Prelude.{◌≡◌, ◌≢◌, ◌≤◌, ◌↔◌, ◌+◌, ◌-◌, ◌^◌, ℕ, min}
+use Rattle.share_cow.specs.Store.{Store, IsLiveRoot, den, made, places_of, shared, spare}
 
 -- a root is as live as it was, and stands for what it stood for
 pub record SameTree (old new : Store) (root : ℕ) : Type 0 where
@@ -25,3 +25,14 @@ pub record AllStay (old new : Store) : Type 0 where
   pub shared : (root : ℕ) → shared new root ≤ shared old root
   pub spare : spare new ≡ spare old
   pub made : made old ≤ made new
+
+-- What writes through a root keep: all other roots stay as they are and share no more than before.
+-- The root stays live and its tree keeps its number of places; so many nodes were made as fewer of
+-- these places are shared.
+pub record KeepsOthers (root : ℕ) (old new : Store) : Type 0 where
+  pub others : OthersStay root old new
+  pub live : IsLiveRoot new root ↔ IsLiveRoot old root
+  pub places : places_of new root ≡ places_of old root
+  pub fewer : shared new root ≤ shared old root
+  pub rose : made new ≡ min (made old + (shared old root - shared new root)) (2 ^ 128 - 1)
+  pub entries : spare new ≡ spare old

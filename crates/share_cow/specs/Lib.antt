@@ -4,6 +4,8 @@ pub mod Levels
 pub mod Kept
 pub mod Views
 pub mod Emptied
+pub mod Scene
+pub mod Keeping
 -- How a shared node is made anew.
 pub mod Copies
 -- Lists of roots.
@@ -11,3 +13,4 @@ pub mod RootLists
 -- Inside the crate: how nodes go and come.
 pub mod Lowering
 pub mod Planting
+pub mod Owning

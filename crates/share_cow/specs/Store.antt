@@ -1,5 +1,5 @@
 -- What a forest holds, and the tree that each of its roots stands for.
-use Rattle.std.specs.Prelude.{◌≡◌, ◌+◌, ◌-◌, ◌^◌, ◌<◌, ◌≤◌, ℕ, min, false, List, [], ◌∷◌, map, filter_map, length, count_by, is_some, Option, Some, None, IsSome, slice_index_or}
+use Rattle.std.specs.Prelude.{◌≡◌, ◌+◌, ◌-◌, ◌^◌, ◌<◌, ◌≤◌, ℕ, min, false, true, List, [], ◌∷◌, map, filter_map, length, count_by, is_some, Option, Some, None, IsSome, slice_index_or}
 use Rattle.pdata_tree.specs.declared.batch.Batch.{Batch}
 use Rattle.pdata_tree.specs.declared.record.LogRecord.{LogRecord}
 use Rattle.pdata_tree.specs.declared.resource.ResourceNode.{ResourceNode}
@@ -142,6 +142,10 @@ den s root = as_batch (value nothing (levels s) root)
 -- the number of shared places of a root's tree
 abbrev pub shared : Store → ℕ → ℕ
 shared s root = sum_over (shared_places false (tree_levels s)) (batch_named (root_at s root))
+
+-- the number of all places of a root's tree
+abbrev pub places_of : Store → ℕ → ℕ
+places_of s root = sum_over (shared_places true (tree_levels s)) (batch_named (root_at s root))
 
 -- the number of free root entries
 abbrev pub spare : Store → ℕ

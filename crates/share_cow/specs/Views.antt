@@ -1,5 +1,5 @@
 -- What is seen of one tree.
-use Rattle.std.specs.Prelude.{ℕ, List, [], ◌∷◌, Option, None, Some, length, map, slice_get}
+use Rattle.std.specs.Prelude.{ℕ, List, [], Option, None, Some, length, map, slice_get}
 use Rattle.pdata_tree.specs.declared.batch.Batch.{Batch}
 use Rattle.pdata_tree.specs.declared.record.LogRecord.{LogRecord}
 use Rattle.pdata_tree.specs.declared.resource.ResourceNode.{ResourceNode}

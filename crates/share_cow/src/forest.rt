@@ -1,16 +1,26 @@
 //! The forest and its roots.
 
 ghost use Rattle.std.specs.Prelude.{◌≡◌, ◌<◌, ◌+◌, ◌-◌, ◌^◌, ◌↔◌, [], min, None, Some, IfOk, OnOk, OnErr, IsTrue};
+ghost use Rattle.pdata_tree.specs.Places.{IsPlaceIn};
 ghost use Rattle.pdata_tree.specs.Tree.{nodes};
 ghost use Rattle.share_cow.specs.Kept.{AllStay, OthersStay, SharesWith};
+ghost use Rattle.share_cow.specs.Scene.{Stands, tree_of};
 ghost use Rattle.share_cow.specs.Store.{IsLiveRoot, IsSound, den, made, root_at, shared, spare};
+
+mod finding;
+mod own_path;
+mod reading;
+mod selecting;
+mod writing;
 
 use crate::lowering::lower_batch;
 use crate::node::Node;
 use crate::planting::plant_batch;
 use crate::root::Root;
+use crate::scene::ForestScene;
 use crate::view::RootView;
-use pdata_tree::{Batch, LogRecord, ResourceNode, ScopeNode};
+use pdata_tree::{Batch, Context, LogRecord, Place, ResourceNode, ScopeNode};
+pub use selecting::Flags;
 use shelf::Shelf;
 use slab::Slab;
 use std::alloc::{AllocError, Global};
@@ -175,6 +185,21 @@ impl Forest {
             &self.logs,
             batch,
         )
+    }
+
+    /// A scene over a root's tree, at a place that is in it.
+    pub fn scene(&mut self, root: &Root, context: Context, place: Place) -> ForestScene<'_>
+        requires live { IsLiveRoot self.old root.now }
+        requires inside { IsPlaceIn (tree_of self.old root.now) context place }
+        ensures lends { result.forest.ghost_name ≡ self.entry.ghost_name }
+        ensures forest { result.forest.now ≡ self.old }
+        ensures root { result.root ≡ root.now }
+        ensures context { result.context ≡ context }
+        ensures place { result.place ≡ place }
+        ensures stands { Stands self.old root.now context place }
+    {
+        let _ = &self.roots;
+        ForestScene::new(self, Root::new(root.place()), context, place)
     }
 
     // The batch of a live root.

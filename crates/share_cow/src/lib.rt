@@ -6,13 +6,16 @@ mod laws;
 mod looking;
 mod lowering;
 mod node;
+mod owning;
 mod planting;
 mod root;
+mod scene;
 mod view;
 
-pub use forest::Forest;
+pub use forest::{Flags, Forest};
 pub use laws::{a_way_makes_what_it_owes, nothing_is_left_without_roots};
 pub use root::{Root, Roots};
+pub use scene::ForestScene;
 pub use view::RootView;
 
 #[cfg(test)]

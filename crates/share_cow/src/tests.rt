@@ -12,6 +12,8 @@ use pdata_value::{Pairs, Text, Value};
 use std::alloc::{AllocError, Global};
 use std::test::Fail;
 
+mod writing;
+
 fn record(alloc: Global) -> Result<LogRecord, AllocError> {
     Ok(LogRecord {
         time: 1,

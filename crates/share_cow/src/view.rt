@@ -1,6 +1,7 @@
 //! What a root's tree holds, seen where it stands.
 
-ghost use Rattle.std.specs.Prelude.{◌≡◌, ◌<◌, ◌∷◌, IfOk, length};
+ghost use Rattle.std.specs.Prelude.{◌≡◌, ◌<◌, ◌↔◌, ◌∷◌, IsTrue, IfOk, Some, length, option_map};
+ghost use Rattle.pdata_tree.specs.Places.{IsPlaceIn, log_at, resource_at, scope_at};
 ghost use Rattle.pdata_tree.specs.Tree.{IsCountable, records};
 ghost use Rattle.shelf.specs.Places.{IsLive};
 ghost use Rattle.share_cow.specs.Levels.{AllCounted};
@@ -9,7 +10,8 @@ ghost use Rattle.share_cow.specs.Views.{logs_in, scopes_in, tree_at};
 
 use crate::looking::{children_at, copy_resources, count_all_logs};
 use crate::node::Node;
-use pdata_tree::{Batch, LogRecord, ResourceNode, ScopeNode};
+use crate::owning::child_at;
+use pdata_tree::{Batch, Context, LogRecord, Place, ResourceNode, ScopeNode};
 use shelf::Shelf;
 use std::alloc::AllocError;
 use std::marker::Model;
@@ -99,6 +101,76 @@ impl<'a> RootView<'a> {
         let scopes = children_at(self.resources, resources[resource as usize]);
         let logs = children_at(self.scopes, scopes[scope as usize]);
         logs.len() as u32
+    }
+
+    /// Whether a place is in the tree.
+    pub fn has(&self, context: Context, place: Place) -> bool
+        ensures { IsTrue result ↔ IsPlaceIn self.now context place }
+    {
+        match context {
+            Context::Resource => self.has_resource(place),
+            Context::Scope => self.has_scope(place),
+            Context::Log => self.has_log(place),
+        }
+    }
+
+    fn has_resource(&self, place: Place) -> bool
+        ensures { IsTrue result ↔ IsPlaceIn self.now Context.Resource place }
+    {
+        let resources = children_at(self.batches, self.batch);
+        (place.resource as usize) < resources.len()
+    }
+
+    fn has_scope(&self, place: Place) -> bool
+        ensures { IsTrue result ↔ IsPlaceIn self.now Context.Scope place }
+    {
+        if !self.has_resource(place) {
+            return false;
+        }
+        let resource = child_at(self.batches, self.batch, place.resource);
+        let scopes = children_at(self.resources, resource);
+        (place.scope as usize) < scopes.len()
+    }
+
+    fn has_log(&self, place: Place) -> bool
+        ensures { IsTrue result ↔ IsPlaceIn self.now Context.Log place }
+    {
+        if !self.has_scope(place) {
+            return false;
+        }
+        let resource = child_at(self.batches, self.batch, place.resource);
+        let scope = child_at(self.resources, resource, place.scope);
+        let logs = children_at(self.scopes, scope);
+        (place.log as usize) < logs.len()
+    }
+
+    /// What a resource holds itself.
+    pub fn resource(&self, place: Place) -> &ResourceNode
+        requires { IsPlaceIn self.now Context.Resource place }
+        ensures { option_map (λ r. r.node) (resource_at self.now place) ≡ Some result.now }
+    {
+        let resource = child_at(self.batches, self.batch, place.resource);
+        &self.resources.get(resource).content
+    }
+
+    /// What a scope holds itself.
+    pub fn scope(&self, place: Place) -> &ScopeNode
+        requires { IsPlaceIn self.now Context.Scope place }
+        ensures { option_map (λ s. s.node) (scope_at self.now place) ≡ Some result.now }
+    {
+        let resource = child_at(self.batches, self.batch, place.resource);
+        let scope = child_at(self.resources, resource, place.scope);
+        &self.scopes.get(scope).content
+    }
+
+    pub fn log(&self, place: Place) -> &LogRecord
+        requires { IsPlaceIn self.now Context.Log place }
+        ensures { log_at self.now place ≡ Some result.now }
+    {
+        let resource = child_at(self.batches, self.batch, place.resource);
+        let scope = child_at(self.resources, resource, place.scope);
+        let log = child_at(self.scopes, scope, place.log);
+        &self.logs.get(log).content
     }
 
     pub fn count_records(&self) -> u64

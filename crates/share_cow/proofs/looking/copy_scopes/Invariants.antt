@@ -1,4 +1,4 @@
-use Rattle.std.proofs.Common.{◌≡◌, [], ◌∷◌, map, take}
+use Rattle.std.proofs.Common.{◌≡◌, map, take}
 use Rattle.std.specs.Prelude.{filter_map}
 use Rattle.share_cow.specs.Levels.{value}
 use Rattle.share_cow.specs.Store.{as_scope, nothing, scope_levels}

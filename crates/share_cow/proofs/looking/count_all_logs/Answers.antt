@@ -1,4 +1,4 @@
-use Rattle.std.proofs.Common.{◌+◌, ◌≤◌, ◌<◌, ℕ, get_or, map, arith, ap}
+use Rattle.std.proofs.Common.{◌+◌, ℕ, get_or, map, arith, ap}
 use Rattle.share_cow.specs.Levels.{list_at}
 use Rattle.share_cow.specs.Store.{children_of}
 use Rattle.share_cow.specs.Views.{children_in}

@@ -1,0 +1,66 @@
+//! Parts of a root's tree as roots of their own, which share what they keep.
+
+ghost use Rattle.std.specs.Prelude.{◌≡◌, ◌<◌, ◌+◌, ◌-◌, ◌^◌, min, None, IfOk, OnOk, OnErr, option_map};
+ghost use Rattle.pdata_tree.specs.Selecting.{flagged, kept_resources};
+ghost use Rattle.share_cow.specs.Kept.{SharesWith};
+ghost use Rattle.share_cow.specs.Store.{IsLiveRoot, IsSound, den, made, places_of, root_at, shared, spare};
+
+use super::Forest;
+use crate::looking::children_at;
+use crate::node::{Children, Node};
+use crate::owning::raise_all;
+use crate::root::Root;
+use item_list::ItemList;
+use std::alloc::{AllocError, Global};
+
+/// Truths, one for each item that is kept or left out.
+pub type Flags = ItemList<bool>;
+
+impl Forest {
+    /// A root for the flagged resources of a root's tree, whole; one without a flag is left out. It
+    /// makes the payload's node alone.
+    pub fn select_resources(&mut self, root: &Root, keep: &Flags) -> Result<Root, AllocError>
+        requires live { IsLiveRoot self.old root.now }
+        requires spare { 0 < spare self.old }
+        ensures tree { IfOk result (λ part. den self.new part
+            ≡ option_map (kept_resources keep.now) (den self.old root.now)) }
+        ensures live { IfOk result (λ part. IsLiveRoot self.new part) }
+        ensures fresh { IfOk result (λ part. root_at self.old part ≡ None) }
+        ensures own { IfOk result (λ part. shared self.new part < places_of self.new part) }
+        ensures others { IfOk result (λ part. SharesWith root.now part self.old self.new) }
+        ensures spare { OnOk result (spare self.new + 1 ≡ spare self.old) }
+        ensures made { OnOk result (made self.new ≡ min (made self.old + 1) (2 ^ 128 - 1)) }
+        ensures err { OnErr result (self.new ≡ self.old) }
+        ensures sound { IsSound self.new }
+    {
+        let batch = self.batch_at(root);
+        let named = children_at(&self.batches, batch);
+        let children = flagged_places(keep.allocator(), named, keep.as_slice())?;
+        let part = self.batches.add(Node {
+            content: (),
+            children,
+        })?;
+        raise_all(&mut self.resources, children_at(&self.batches, part));
+        Ok(Root::new(self.roots.insert_reserved(part)))
+    }
+}
+
+// The flagged places.
+#[tactic(auto, using(crate::proofs::Flagged::taken, crate::proofs::Flagged::left, crate::proofs::Flagged::ended))]
+fn flagged_places(alloc: Global, places: &[u64], flags: &[bool]) -> Result<Children, AllocError>
+    ensures { IfOk result (λ kept. kept ≡ flagged flags.now places.now) }
+{
+    let mut kept = ItemList::new(alloc);
+    let mut left = places;
+    let mut rest = flags;
+    while let [place, others @ ..] = left {
+        if let [flag, after @ ..] = rest {
+            if *flag {
+                kept.push(*place)?;
+            }
+            rest = after;
+        }
+        left = others;
+    }
+    Ok(kept)
+}
