@@ -41,3 +41,4 @@ pub mod WriteLog
 pub mod Inside
 pub mod Flagged
 pub mod Selected
+pub mod Sizes

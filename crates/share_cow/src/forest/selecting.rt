@@ -1,9 +1,11 @@
 //! Parts of a root's tree as roots of their own, which share what they keep.
 
-ghost use Rattle.std.specs.Prelude.{◌≡◌, ◌<◌, ◌+◌, ◌-◌, ◌^◌, min, None, IfOk, OnOk, OnErr, option_map};
+ghost use Rattle.std.specs.Prelude.{◌≡◌, ◌<◌, ◌≤◌, ◌+◌, ◌-◌, ◌^◌, min, None, IfOk, OnOk, OnErr, option_map};
 ghost use Rattle.pdata_tree.specs.Selecting.{flagged, kept_resources};
+ghost use Rattle.pdata_tree.specs.Tree.{nodes};
 ghost use Rattle.share_cow.specs.Kept.{SharesWith};
-ghost use Rattle.share_cow.specs.Store.{IsLiveRoot, IsSound, den, made, places_of, root_at, shared, spare};
+ghost use Rattle.share_cow.specs.Scene.{tree_of};
+ghost use Rattle.share_cow.specs.Store.{IsLiveRoot, IsSound, den, made, root_at, shared, spare};
 
 use super::Forest;
 use crate::looking::children_at;
@@ -26,7 +28,8 @@ impl Forest {
             ≡ option_map (kept_resources keep.now) (den self.old root.now)) }
         ensures live { IfOk result (λ part. IsLiveRoot self.new part) }
         ensures fresh { IfOk result (λ part. root_at self.old part ≡ None) }
-        ensures own { IfOk result (λ part. shared self.new part < places_of self.new part) }
+        ensures bound { IfOk result
+            (λ part. shared self.new part + 1 ≤ nodes (tree_of self.new part)) }
         ensures others { IfOk result (λ part. SharesWith root.now part self.old self.new) }
         ensures spare { OnOk result (spare self.new + 1 ≡ spare self.old) }
         ensures made { OnOk result (made self.new ≡ min (made self.old + 1) (2 ^ 128 - 1)) }
