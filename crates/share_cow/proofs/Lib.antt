@@ -42,3 +42,5 @@ pub mod Inside
 pub mod Flagged
 pub mod Selected
 pub mod Sizes
+pub mod Keying
+pub mod Retained

@@ -1,13 +1,12 @@
 -- A root's tree has as many places as nodes.
-use Rattle.std.proofs.Common.{◌≡◌, ◌+◌, ◌<◌, ◌≤◌, ℕ, true, List, [], ◌∷◌, length, map, Option, Some, refl, ap, sym, ◌∙◌, arith}
+use Rattle.std.proofs.Common.{◌≡◌, ◌<◌, ℕ, true, List, [], ◌∷◌, length, map, Option, refl, ap, ◌∙◌, arith}
 use Rattle.std.specs.Prelude.{filter_map}
 use Rattle.pdata_tree.specs.Tree.{nodes, nodes_of_resources, nodes_of_scopes}
-use Rattle.pdata_tree.specs.declared.batch.Batch.{Batch}
 use Rattle.pdata_tree.specs.declared.record.LogRecord.{LogRecord}
 use Rattle.pdata_tree.specs.declared.resource.ResourceNode.{ResourceNode}
 use Rattle.pdata_tree.specs.declared.scope.ScopeNode.{ScopeNode}
 use Rattle.shelf.specs.Places.{Places, count_at}
-use Rattle.share_cow.specs.Levels.{Counted, Level, list_at, shared_places, sum_over, times, value}
+use Rattle.share_cow.specs.Levels.{Counted, list_at, shared_places, sum_over, value}
 use Rattle.share_cow.specs.Lowering.{Holds}
 use Rattle.share_cow.specs.Scene.{tree_of}
 use Rattle.share_cow.specs.Store.{IsLiveRoot, IsSound, Part, Store, as_resource, as_scope, batch_named, children_of, log_level, nothing, places_of, resource_level, resource_levels, resource_made, root_at, scope_level, scope_levels, scope_made, tree_levels}

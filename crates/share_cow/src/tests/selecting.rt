@@ -42,3 +42,20 @@ fn selecting_resources_makes_the_payload_alone(rt: HostRuntime) -> Result<(), Fa
     assert_eq!(rt; after_selecting(rt.alloc())?, (8, 1, 2));
     Ok(())
 }
+
+fn after_retaining(alloc: Global) -> Result<(u128, usize, u32), AllocError> {
+    let mut forest = Forest::new(alloc, 1)?;
+    let root = forest.plant(two_resources(alloc)?)?;
+    let mut keep: Flags = ItemList::new(alloc);
+    keep.push(false)?;
+    keep.push(true)?;
+    forest.retain_resources(&root, &keep)?;
+    let kept = resources_of(&forest, &root)?;
+    Ok((forest.made(), kept, forest.spare()))
+}
+
+#[test]
+fn retaining_resources_needs_no_further_root(rt: HostRuntime) -> Result<(), Fail> {
+    assert_eq!(rt; after_retaining(rt.alloc())?, (8, 1, 0));
+    Ok(())
+}
