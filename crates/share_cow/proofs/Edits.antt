@@ -25,7 +25,7 @@ module _ {X : Type 0} where
 sum_none : (f : ℕ → ℕ) (qs : List ℕ) → sum_over f qs ≡ 0 → (q : ℕ) → 0 < times q qs → f q ≡ 0
 sum_none f qs none q h = omega (arith, none, sum_at_least f q qs h)
 
-all_none : (f : ℕ → ℕ) (qs : List ℕ) → ((q : ℕ) → 0 < times q qs → f q ≡ 0) → sum_over f qs ≡ 0
+pub all_none : (f : ℕ → ℕ) (qs : List ℕ) → ((q : ℕ) → 0 < times q qs → f q ≡ 0) → sum_over f qs ≡ 0
 all_none f [] h = refl
 all_none f (q ∷ qs) h = omega (arith, h q (omega (arith, times_head q qs)), all_none f qs (λ r g. h r (omega arith)))
 

@@ -41,3 +41,6 @@ pub mod WriteLog
 pub mod Inside
 pub mod Flagged
 pub mod Selected
+pub mod Sizes
+pub mod Keying
+pub mod Retained

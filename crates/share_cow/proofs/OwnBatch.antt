@@ -73,7 +73,7 @@ live_named : (o : Option ℕ) → 0 < length (batch_named o) → IsSome o
 live_named None h = absurd (omega arith)
 live_named (Some b) h = refl
 
-within_roots : (roots : List (Option ℕ)) (root batch : ℕ) → slice_index_or roots root None ≡ Some batch → root < length roots
+pub within_roots : (roots : List (Option ℕ)) (root batch : ℕ) → slice_index_or roots root None ≡ Some batch → root < length roots
 within_roots [] root batch is = absurd (none_some batch is)
 within_roots (o ∷ roots) zero batch is = omega arith
 within_roots (o ∷ roots) (suc root) batch is = omega (arith, within_roots roots root batch is)

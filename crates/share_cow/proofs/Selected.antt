@@ -8,7 +8,7 @@ use Rattle.pdata_tree.specs.declared.resource.ResourceNode.{ResourceNode}
 use Rattle.pdata_tree.specs.declared.resource.ResourceTree.{ResourceTree}
 use Rattle.shelf.specs.Places.{Adds, Places, count_at}
 use Rattle.share_cow.specs.Kept.{SameTree}
-use Rattle.share_cow.specs.Levels.{Counted, IsApart, Level, list_at, named, shared_places, stands, sum_over, times, value}
+use Rattle.share_cow.specs.Levels.{AllCounted, Counted, IsApart, Level, list_at, named, shared_places, stands, sum_over, times, value}
 use Rattle.share_cow.specs.Lowering.{AllAgree, Holds}
 use Rattle.share_cow.specs.Owning.{Raises}
 use Rattle.share_cow.specs.Store.{IsKept, IsSound, Part, Store, as_batch, as_resource, batch_level, batch_made, batch_named, built, children_of, den, first_part, levels, made, nothing, places_of, resource_level, resource_levels, root_at, root_level, scope_level, scope_levels, shared, tree_levels}
@@ -98,8 +98,8 @@ module _ (s : Store) (root batch key new : ℕ) (sound : IsSound s) (is : root_a
   resource_names : (p : ℕ) → list_at (map children_of resources.slots) p ≡ list_at (map children_of s.resources.slots) p
   resource_names p = names_same s.resources resources p (raised.items p)
 
-  roots_counted : Counted (root_level roots) (batch_level batches)
-  roots_counted p =
+  pub select_roots : Counted (root_level roots) (batch_level batches)
+  select_roots p =
       omega (
         arith,
         named_but p (map batch_named s.roots) (map batch_named roots) key (λ j d. root_list roots j ∙ ap batch_named (others j d) ∙ sym (root_list s.roots j)),
@@ -194,13 +194,19 @@ module _ (s : Store) (root batch key new : ℕ) (sound : IsSound s) (is : root_a
       let was = ap (sum_over (stands (take (suc depth) (tree_levels s)) q)) (root_list s.roots root ∙ ap batch_named is) in
       omega (arith, now, below, still, fewer, was, sound.apart root (suc (suc depth)) q h)
 
+  pub select_apart : (r : ℕ) → IsApart (levels selected) r
+  select_apart r = elim (eqb_tells r key) as (λ x. IsApart (levels selected) r) [
+    | inl e ↦ subst (λ (k : ℕ). IsApart (levels selected) k) (sym e.1) key_apart
+    | inr e ↦ apart_same s selected r r (others r e.1) (same_at r) (sound.apart r)
+  ]
+
+  pub select_counted : AllCounted (tree_levels selected)
+  select_counted = (batches_counted, (resources_counted, sound.counts.1.1.1))
+
   pub select_sound : new < 2 ^ 64 → length kids < 2 ^ 64 → count_by is_some roots ≤ s.most → IsSound selected
   select_sound fits short fewer = record {
-    counts = (roots_counted, (batches_counted, (resources_counted, sound.counts.1.1.1)));
-    apart = λ r. elim (eqb_tells r key) as (λ x. IsApart (levels selected) r) [
-      | inl e ↦ subst (λ (k : ℕ). IsApart (levels selected) k) (sym e.1) key_apart
-      | inr e ↦ apart_same s selected r r (others r e.1) (same_at r) (sound.apart r)
-    ];
+    counts = (select_roots, select_counted);
+    apart = select_apart;
     batches = (add_keeps s.batches batches new _ add sound.batches fits short).kept;
     resources = raised.thins.kept;
     scopes = sound.scopes;

@@ -198,6 +198,7 @@ impl Forest {
         ensures place { result.place ≡ place }
         ensures stands { Stands self.old root.now context place }
     {
+        // A look at a field tells that the forest is sound.
         let _ = &self.roots;
         ForestScene::new(self, Root::new(root.place()), context, place)
     }

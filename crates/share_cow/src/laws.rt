@@ -1,10 +1,12 @@
 //! Laws on what a forest holds.
 
 ghost use Rattle.std.specs.Prelude.{◌≡◌, ◌+◌, ◌<◌, ◌≤◌, ◌++◌, ◌∷◌, ℕ, List, Option, false, length};
+ghost use Rattle.pdata_tree.specs.Tree.{nodes};
 ghost use Rattle.share_cow.specs.Copies.{Copies, InTree, OpenPath, Went, onto, owed};
 ghost use Rattle.share_cow.specs.Levels.{AllCounted, IsApart, Level, shared_places};
 ghost use Rattle.share_cow.specs.Emptied.{HoldsNothing};
-ghost use Rattle.share_cow.specs.Store.{IsSound, Part, Store, spare};
+ghost use Rattle.share_cow.specs.Scene.{tree_of};
+ghost use Rattle.share_cow.specs.Store.{IsLiveRoot, IsSound, Part, Store, places_of, spare};
 
 /// Where all roots are given up, whatever the order, no node is left.
 #[tactic(auto, using(crate::proofs::Unshared::emptied))]
@@ -31,4 +33,11 @@ pub fn a_way_makes_what_it_owes()
         → OpenPath above root path p → m.count p ≤ 1 → (made ≡ owed ls root path)
         × (shared_places false (above ++ m ∷ below) root + owed ls root path
         ≡ shared_places false ls root) }
+{}
+
+/// A root's tree has as many places as nodes.
+#[tactic(auto, using(crate::proofs::Sizes::places_are_nodes))]
+pub fn a_tree_has_as_many_places_as_nodes()
+    ensures { (forest : Store) (root : ℕ) → IsSound forest → IsLiveRoot forest root
+        → places_of forest root ≡ nodes (tree_of forest root) }
 {}

@@ -13,7 +13,9 @@ mod scene;
 mod view;
 
 pub use forest::{Flags, Forest};
-pub use laws::{a_way_makes_what_it_owes, nothing_is_left_without_roots};
+pub use laws::{
+    a_tree_has_as_many_places_as_nodes, a_way_makes_what_it_owes, nothing_is_left_without_roots,
+};
 pub use root::{Root, Roots};
 pub use scene::ForestScene;
 pub use view::RootView;

@@ -12,6 +12,7 @@ use pdata_value::{Pairs, Text, Value};
 use std::alloc::{AllocError, Global};
 use std::test::Fail;
 
+mod selecting;
 mod writing;
 
 fn record(alloc: Global) -> Result<LogRecord, AllocError> {

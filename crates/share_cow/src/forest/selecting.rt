@@ -1,12 +1,15 @@
 //! Parts of a root's tree as roots of their own, which share what they keep.
 
-ghost use Rattle.std.specs.Prelude.{◌≡◌, ◌<◌, ◌+◌, ◌-◌, ◌^◌, min, None, IfOk, OnOk, OnErr, option_map};
+ghost use Rattle.std.specs.Prelude.{◌≡◌, ◌<◌, ◌≤◌, ◌+◌, ◌-◌, ◌^◌, min, None, IfOk, OnOk, OnErr, option_map};
 ghost use Rattle.pdata_tree.specs.Selecting.{flagged, kept_resources};
-ghost use Rattle.share_cow.specs.Kept.{SharesWith};
-ghost use Rattle.share_cow.specs.Store.{IsLiveRoot, IsSound, den, made, places_of, root_at, shared, spare};
+ghost use Rattle.pdata_tree.specs.Tree.{nodes};
+ghost use Rattle.share_cow.specs.Kept.{OthersStay, SharesWith};
+ghost use Rattle.share_cow.specs.Scene.{tree_of};
+ghost use Rattle.share_cow.specs.Store.{IsLiveRoot, IsSound, den, made, root_at, shared, spare};
 
 use super::Forest;
 use crate::looking::children_at;
+use crate::lowering::lower_batch;
 use crate::node::{Children, Node};
 use crate::owning::raise_all;
 use crate::root::Root;
@@ -26,7 +29,8 @@ impl Forest {
             ≡ option_map (kept_resources keep.now) (den self.old root.now)) }
         ensures live { IfOk result (λ part. IsLiveRoot self.new part) }
         ensures fresh { IfOk result (λ part. root_at self.old part ≡ None) }
-        ensures own { IfOk result (λ part. shared self.new part < places_of self.new part) }
+        ensures bound { IfOk result
+            (λ part. shared self.new part + 1 ≤ nodes (tree_of self.new part)) }
         ensures others { IfOk result (λ part. SharesWith root.now part self.old self.new) }
         ensures spare { OnOk result (spare self.new + 1 ≡ spare self.old) }
         ensures made { OnOk result (made self.new ≡ min (made self.old + 1) (2 ^ 128 - 1)) }
@@ -42,6 +46,40 @@ impl Forest {
         })?;
         raise_all(&mut self.resources, children_at(&self.batches, part));
         Ok(Root::new(self.roots.insert_reserved(part)))
+    }
+
+    /// Leaves the flagged resources of a root's tree, whole; one without a flag goes. It makes the
+    /// payload's node alone.
+    pub fn retain_resources(&mut self, root: &Root, keep: &Flags) -> Result<(), AllocError>
+        requires { IsLiveRoot self.old root.now }
+        ensures tree { OnOk result (den self.new root.now
+            ≡ option_map (kept_resources keep.now) (den self.old root.now)) }
+        ensures live { IsLiveRoot self.new root.now }
+        ensures bound { OnOk result
+            (shared self.new root.now + 1 ≤ nodes (tree_of self.new root.now)) }
+        ensures others { OnOk result (OthersStay root.now self.old self.new) }
+        ensures spare { spare self.new ≡ spare self.old }
+        ensures made { OnOk result (made self.new ≡ min (made self.old + 1) (2 ^ 128 - 1)) }
+        ensures err { OnErr result (self.new ≡ self.old) }
+        ensures sound { IsSound self.new }
+    {
+        let batch = self.batch_at(root);
+        let named = children_at(&self.batches, batch);
+        let children = flagged_places(keep.allocator(), named, keep.as_slice())?;
+        let part = self.batches.add(Node {
+            content: (),
+            children,
+        })?;
+        raise_all(&mut self.resources, children_at(&self.batches, part));
+        self.roots[root.place()] = part;
+        lower_batch(
+            &mut self.batches,
+            &mut self.resources,
+            &mut self.scopes,
+            &mut self.logs,
+            batch,
+        );
+        Ok(())
     }
 }
 

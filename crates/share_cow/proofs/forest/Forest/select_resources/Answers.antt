@@ -1,7 +1,8 @@
-use Rattle.std.proofs.Common.{◌∙◌, arith}
+use Rattle.std.proofs.Common.{◌∙◌, arith, refl}
 use Rattle.share_cow.specs.Store.{resource_level}
 use Rattle.share_cow.proofs.Selected.{added_live, added_names, flagged_live, flagged_room, flagged_short, select_others, select_own, select_shared, select_sound, select_tree}
 use Rattle.share_cow.proofs.Share.{batch_live}
+use Rattle.share_cow.proofs.Sizes.{places_are_nodes}
 use Rattle.share_cow.proofs.forest.Forest.select_resources.Goals as goal
 
 pub children_at-named-requires : goal.children_at-named-requires
@@ -46,14 +47,16 @@ returns-clause-tree c =
     rw (c.new.ensures, ← c.self.view_is) (select_tree _ c.args.root.now c.batch_at-batch.result c.insert_reserved.result c.in_ok-part.part c.self.invariant.1 is c.args.keep.now c.add.new.self c.raise_all.new.shelf c.insert_reserved.new.self.slots
     add raised put.was_vacant put.updates.changed put.updates.others)
 
-pub returns-clause-own : goal.returns-clause-own
-returns-clause-own c =
+pub returns-clause-bound : goal.returns-clause-bound
+returns-clause-bound c =
     let is = rw (← c.self.view_is) at c.batch_at-batch.ensures in
     let add = rw (c.in_ok-children.ensures, c.as_slice.ensures, c.children_at-named.ensures) at c.in_ok-part.ensures.ok in
     let raised = rw (c.children_at.ensures, added_names c.self.inside.batches c.add.new.self c.in_ok-part.part _ add) at c.raise_all.ensures in
     let put = c.insert_reserved.ensures in
-    rw c.new.ensures (select_own _ c.args.root.now c.batch_at-batch.result c.insert_reserved.result c.in_ok-part.part c.self.invariant.1 is c.args.keep.now c.add.new.self c.raise_all.new.shelf c.insert_reserved.new.self.slots
-    add raised put.was_vacant put.updates.changed put.updates.others)
+    let own = select_own _ c.args.root.now c.batch_at-batch.result c.insert_reserved.result c.in_ok-part.part c.self.invariant.1 is c.args.keep.now c.add.new.self c.raise_all.new.shelf c.insert_reserved.new.self.slots
+    add raised put.was_vacant put.updates.changed put.updates.others in
+    let nodes = places_are_nodes _ c.insert_reserved.result (invariant_of-self-2 c).1 (rw put.updates.changed refl) in
+    rw c.new.ensures (omega (arith, own, nodes))
 
 pub returns-clause-others : goal.returns-clause-others
 returns-clause-others c =
