@@ -3,7 +3,8 @@
 # behind them.
 root=$(CDPATH='' cd -- "$(dirname -- "$0")/.." && pwd) || exit 1
 place=$(mktemp -d) || exit 1
-mkdir "$place/bin" && ln -s "$root/collector" "$place/bin/collector" || exit 1
+mkdir "$place/bin" || exit 1
+printf '#!/bin/sh\nexec "%s" "$@"\n' "$root/collector" >"$place/bin/collector" && chmod +x "$place/bin/collector" || exit 1
 PATH=$place/bin:$PATH
 awk -v place="$place" '
     /^```sh$/ { block += 1; into = place "/" block ".sh"; next }
