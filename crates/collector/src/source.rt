@@ -59,7 +59,7 @@ impl Source {
             Source::Made(memory) => match lines.next(memory) {
                 Ok(found) => Ok(found),
                 Err(LineStop::TooLong) => Err(LineStop::TooLong),
-                // A text in memory is read wherever there is memory.
+                // No read of the text is planned to fail, so this is want of memory.
                 Err(_) => Err(LineStop::NoMemory),
             },
         }

@@ -130,3 +130,5 @@ pub legs_end : (conf : Conf) (tree kept : Batch) (left : List LegOutcome) (legs 
     → map outcome_of left ≡ map (leg_outcome logs conf tree) conf.legs
 legs_end conf tree kept left [] g = sym (append-nil (map outcome_of left)) ∙ g.whole
 legs_end conf tree kept left (leg ∷ legs) g = absurd (let e = g.fit in cc)
+
+pub ruleset legs_go_on = (legs_turn, legs_start, no_leg, legs_end)

@@ -93,5 +93,6 @@ abbrev pub entry_below : Leg → Option (Outcome Batch) → Batch → Batch
 entry_below leg None tree = tree
 entry_below leg (Some above) tree = handed logs leg above
 
+-- the same, by what all legs before it left
 abbrev pub entry_by : Leg → List (Outcome Batch) → Batch → Batch
 entry_by leg before tree = entry_below leg (within (slice_get before) leg.parent) tree

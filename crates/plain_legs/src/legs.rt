@@ -17,9 +17,9 @@ use pdata_tree::Batch;
 use std::alloc::{AllocError, Global};
 use std::mem;
 
-/// What each leg leaves of a payload's tree, each on a copy of its own, with the matchers that are
-/// kept. The last leg that gets the payload itself takes the tree.
-#[tactic(auto, using(crate::proofs::Going::legs_turn, crate::proofs::Going::legs_start, crate::proofs::Going::no_leg, crate::proofs::Going::legs_end))]
+/// What each leg leaves of a payload's tree, each on a tree of its own, with the matchers that are
+/// kept. The last leg that gets the payload itself takes the tree, each other one a copy.
+#[tactic(auto, using(crate::proofs::Going::legs_go_on))]
 pub fn run_legs<'p>(
     alloc: Global,
     plan: &LegPlan<'p>,

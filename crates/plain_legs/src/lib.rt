@@ -1,4 +1,4 @@
-//! Legs on one thread, each on a copy of its own.
+//! Legs on one thread, each on a tree of its own.
 #![tactic(auto)]
 
 mod counting;

@@ -48,7 +48,8 @@ module _ {X : Type 0} where
   -- nodes that count no more than once
   abbrev pub stands_open : List (Level X) → ℕ → ℕ → ℕ
   stands_open [] q p = cond (p == q) 1 0
-  stands_open (l ∷ ls) q p = cond (nat_lt 1 (l.count p)) 0 (sum_over (stands_open ls q) (list_at l.children p))
+  stands_open (l ∷ ls) q p =
+      cond (nat_lt 1 (l.count p)) 0 (sum_over (stands_open ls q) (list_at l.children p))
 
   -- the indices lead from `p` to the place `q` of the level below the last of these, under nodes
   -- that count no more than once
@@ -73,7 +74,8 @@ module _ {X : Type 0} where
   owed [] p is = 0
   owed (l ∷ ls) p [] = cond (nat_lt 1 (l.count p)) 1 0
   owed (l ∷ ls) p (i ∷ is) =
-      cond (nat_lt 1 (l.count p)) (2 + length is) (owed ls (slice_index_or (list_at l.children p) i 0) is)
+      cond (nat_lt 1 (l.count p)) (2 + length is)
+      (owed ls (slice_index_or (list_at l.children p) i 0) is)
 
   -- the place at the end of a path
   abbrev pub end_of : List (Level X) → ℕ → List ℕ → ℕ
@@ -84,7 +86,8 @@ module _ {X : Type 0} where
   -- Every count is right, every node of the first level stands for what it stood for, and none has
   -- more shared places; those of the root, and what its path owes, fell by the number of nodes that
   -- were made.
-  pub record Went (none : X) (ls ms : List (Level X)) (root : ℕ) (path : List ℕ) (made : ℕ) : Type 0 where
+  pub record Went (none : X) (ls ms : List (Level X)) (root : ℕ) (path : List ℕ) (made : ℕ)
+      : Type 0 where
     pub counted : AllCounted ms
     pub apart : (r : ℕ) → IsApart ls r → IsApart ms r
     pub same : (r : ℕ) → value none ms r ≡ value none ls r

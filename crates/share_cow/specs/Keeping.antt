@@ -21,6 +21,7 @@ keeps_refl root s = record {
   entries = refl;
 }
 
+-- a tree that stays twice stays
 same_on : (s t u : Store) (r : ℕ) → SameTree s t r → SameTree t u r → SameTree s u r
 same_on s t u r a b = record {
   tree = b.tree ∙ a.tree;
@@ -28,7 +29,8 @@ same_on s t u r a b = record {
 }
 
 -- and what is kept twice is kept
-pub keeps_on : (root : ℕ) (s t u : Store) → KeepsOthers root s t → KeepsOthers root t u → KeepsOthers root s u
+pub keeps_on : (root : ℕ) (s t u : Store)
+    → KeepsOthers root s t → KeepsOthers root t u → KeepsOthers root s u
 keeps_on root s t u a b = record {
   others = record {
     trees = λ other d. same_on s t u other (a.others.trees other d) (b.others.trees other d);
@@ -42,11 +44,15 @@ keeps_on root s t u a b = record {
 }
 
 -- so for scenes
-pub scene_itself : (root : ℕ) (context : Context) (place : Place) (s : Store) → KeepsScene root context place s s
+pub scene_itself : (root : ℕ) (context : Context) (place : Place) (s : Store)
+    → KeepsScene root context place s s
 scene_itself root context place s = record { others = keeps_refl root s; stands = λ h. h }
 
-pub scene_on : (root root2 : ℕ) (context context2 : Context) (place place2 : Place) (s t u : Store) → root2 ≡ root → context2 ≡ context → place2 ≡ place
-    → KeepsScene root context place s t → KeepsScene root2 context2 place2 t u → KeepsScene root context place s u
+-- and for two of them on one root at one place
+pub scene_on : (root root2 : ℕ) (context context2 : Context) (place place2 : Place)
+    → (s t u : Store) → root2 ≡ root → context2 ≡ context → place2 ≡ place
+    → KeepsScene root context place s t → KeepsScene root2 context2 place2 t u
+    → KeepsScene root context place s u
 scene_on root root2 context context2 place place2 s t u same_root same_context same_place a b =
     let b1 = subst (λ (r : ℕ). KeepsScene r context2 place2 t u) same_root b in
     let b2 = subst (λ (c : Context). KeepsScene root c place2 t u) same_context b1 in
@@ -54,8 +60,10 @@ scene_on root root2 context context2 place place2 s t u same_root same_context s
     record { others = keeps_on root s t u a.others c.others; stands = λ h. c.stands (a.stands h) }
 
 -- a scene stands on where it stood
-pub stands_on : (root root2 : ℕ) (context context2 : Context) (place place2 : Place) (s t : Store) → root2 ≡ root → context2 ≡ context → place2 ≡ place
-    → KeepsScene root context place s t → Stands s root context place → Stands t root2 context2 place2
+pub stands_on : (root root2 : ℕ) (context context2 : Context) (place place2 : Place)
+    → (s t : Store) → root2 ≡ root → context2 ≡ context → place2 ≡ place
+    → KeepsScene root context place s t → Stands s root context place
+    → Stands t root2 context2 place2
 stands_on root root2 context context2 place place2 s t same_root same_context same_place a h =
     let h1 = subst (λ (r : ℕ). Stands t r context place) (sym same_root) (a.stands h) in
     let h2 = subst (λ (c : Context). Stands t root2 c place) (sym same_context) h1 in

@@ -10,13 +10,15 @@ use Rattle.share_cow.specs.declared.node.Node.{Node}
 module _ {D : Type 0} where
   -- the shelf with what a change makes of the node at a place
   abbrev pub with_node : Places (Node D) → ℕ → (Node D → Node D) → Places (Node D)
-  with_node s place change = with_slot s place (option_map (λ kept. (change kept.0, kept.1)) (slot_at s place))
+  with_node s place change =
+      with_slot s place (option_map (λ kept. (change kept.0, kept.1)) (slot_at s place))
 
   -- a node with this content came, which counts once and names what another one names; that one
   -- counts once less
   pub record NodeCopied (old new : ℕ) (content : D) (s t : Places (Node D)) : Type 0 where
     pub was_free : slot_at s new ≡ None
-    pub copy : slot_at t new ≡ Some (record { content = content; children = list_at (map children_of s.slots) old }, 1)
+    pub copy : slot_at t new ≡ Some
+        (record { content = content; children = list_at (map children_of s.slots) old }, 1)
     pub less : slot_at t old ≡ lowered (slot_at s old)
     pub others : (p : ℕ) → p ≢ old → p ≢ new → slot_at t p ≡ slot_at s p
     pub keeps : Keeps 1 s t

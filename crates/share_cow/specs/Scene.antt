@@ -61,18 +61,21 @@ pub record Stands (s : Store) (root : ℕ) (context : Context) (place : Place) :
 -- What a write at a level leaves of a forest. The root's tree becomes what is meant, or stays where
 -- that is an error or memory ran out; all else is kept, and so is each place below the written
 -- object. The numbers of a scene on the root at the place are those after a write at the level.
-pub record Writes (level : Context) (root : ℕ) (place : Place) (meant : Batch → Result Batch EvalErr)
-    (old new : Store) (result : Result Unit EvalStop) : Type 0 where
+pub record Writes (level : Context) (root : ℕ) (place : Place)
+    (meant : Batch → Result Batch EvalErr) (old new : Store) (result : Result Unit EvalStop)
+    : Type 0 where
   pub value : Changes (meant (tree_of old root)) (tree_of old root) (tree_of new root) result
   pub keeps : KeepsOthers root old new
   pub sound : IsSound new
-  pub inside : (context : Context) → rank level ≤ rank context → IsPlaceIn (tree_of old root) context place
-      → IsPlaceIn (tree_of new root) context place
-  pub counts : (context : Context) → rank level ≤ rank context → IsPlaceIn (tree_of old root) context place
+  pub inside : (context : Context) → rank level ≤ rank context
+      → IsPlaceIn (tree_of old root) context place → IsPlaceIn (tree_of new root) context place
+  pub counts : (context : Context) → rank level ≤ rank context
+      → IsPlaceIn (tree_of old root) context place
       → Counts level (numbers_of old root context place) (numbers_of new root context place) result
 
 -- What a scene keeps of the forest that it is lent: all that writes through its root keep, and that
 -- its place is in the root's tree.
-pub record KeepsScene (root : ℕ) (context : Context) (place : Place) (old new : Store) : Type 0 where
+pub record KeepsScene (root : ℕ) (context : Context) (place : Place) (old new : Store)
+    : Type 0 where
   pub others : KeepsOthers root old new
   pub stands : Stands old root context place → Stands new root context place

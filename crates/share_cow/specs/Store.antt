@@ -99,31 +99,36 @@ scope_made node parts = a_scope (record { node = node; logs = filter_map as_log 
 abbrev pub log_made : LogRecord → List Part → Part
 log_made own parts = a_log own
 
--- the levels of payloads, resources, scopes and log records
+-- the level of payloads,
 abbrev pub batch_level : Places (Node Unit) → Level Part
 batch_level = level_of batch_made
 
+-- that of resources,
 abbrev pub resource_level : Places (Node ResourceNode) → Level Part
 resource_level = level_of resource_made
 
+-- that of scopes,
 abbrev pub scope_level : Places (Node ScopeNode) → Level Part
 scope_level = level_of scope_made
 
+-- and that of log records
 abbrev pub log_level : Places (Node LogRecord) → Level Part
 log_level = level_of log_made
 
--- the levels from one on down
+-- the levels from scopes on down,
 abbrev pub scope_levels : Places (Node ScopeNode) → Places (Node LogRecord) → List (Level Part)
 scope_levels scopes logs = scope_level scopes ∷ log_level logs ∷ []
 
+-- and from resources on down
 abbrev pub resource_levels : Places (Node ResourceNode) → Places (Node ScopeNode)
     → Places (Node LogRecord) → List (Level Part)
 resource_levels resources scopes logs = resource_level resources ∷ scope_levels scopes logs
 
--- the levels below the roots, and all levels
+-- the levels below the roots,
 abbrev pub tree_levels : Store → List (Level Part)
 tree_levels s = batch_level s.batches ∷ resource_levels s.resources s.scopes s.logs
 
+-- and all levels
 abbrev pub levels : Store → List (Level Part)
 levels s = root_level s.roots ∷ tree_levels s
 
