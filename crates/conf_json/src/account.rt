@@ -93,6 +93,21 @@ impl NoteBook {
         }
     }
 
+    /// Another book with the same account.
+    pub fn copy(&self) -> NoteBook
+        ensures { result ≡ self.now }
+    {
+        let mut kept = ArrayVec::new();
+        let notes = self.kept.as_slice();
+        for note in notes {
+            kept.push(*note);
+        }
+        NoteBook {
+            errors: self.errors,
+            kept,
+        }
+    }
+
     /// Counts an error, and keeps its note where there is room.
     pub fn put(&mut self, note: Note)
         ensures { self.new ≡ noted note self.old }

@@ -48,9 +48,20 @@ impl<'p, const MOST: usize> Matchers<'p, MOST> {
         ensures within { IfOk result (λ at. at < length self.new.kept) }
         ensures few { length self.new.kept ≤ max (length self.old.kept) (max MOST 1) }
     {
-        if let Some(at) = self.place_of(pattern) {
-            return Ok(at);
+        match self.place_of(pattern) {
+            Some(at) => Ok(at),
+            None => self.make(pattern),
         }
+    }
+
+    /// Out of line, since the room of a new matcher is kilobytes, which a search for one that is there must not clear.
+    #[cold]
+    #[inline(never)]
+    fn make(&mut self, pattern: &'p Pattern) -> Result<usize, AllocError>
+        ensures made { IfOk result (λ at. slice_get self.new.kept at ≡ Some pattern.now) }
+        ensures within { IfOk result (λ at. at < length self.new.kept) }
+        ensures few { length self.new.kept ≤ max (length self.old.kept) (max MOST 1) }
+    {
         self.make_room();
         let matcher = PatternMatcher::new(self.alloc, pattern)?;
         let at = self.kept.len();

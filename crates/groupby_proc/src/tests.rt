@@ -8,6 +8,8 @@ use pdata_value::{Pairs, Text, Value};
 use std::alloc::{AllocError, Global};
 use std::test::Fail;
 
+mod forest;
+
 // An attribute with the empty text stands for one with the empty value.
 fn attributes(alloc: Global, pairs: &[(&str, &str)]) -> Result<Pairs, AllocError> {
     let mut attributes = Pairs::new(alloc);

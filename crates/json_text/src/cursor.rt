@@ -14,7 +14,7 @@ use std::marker::Model;
 
 /// How many bytes are behind it, and the text that is left.
 #[derive(Drop)]
-pub(crate) struct Cursor<'a> {
+pub struct Cursor<'a> {
     place: u32,
     rest: &'a str,
 }
@@ -31,7 +31,7 @@ impl<'a> Model for Cursor<'a> {
 }
 
 impl<'a> Cursor<'a> {
-    pub(crate) fn new(text: &'a str) -> Cursor<'a>
+    pub fn new(text: &'a str) -> Cursor<'a>
         requires { length text.now ≤ 16777216 }
         ensures { result ≡ record { at = 0; left = text.now } }
     {
@@ -41,7 +41,7 @@ impl<'a> Cursor<'a> {
         }
     }
 
-    pub(crate) fn at(&self) -> u32
+    pub fn at(&self) -> u32
         ensures { result ≡ self.now.at }
     {
         self.place
@@ -54,7 +54,7 @@ impl<'a> Cursor<'a> {
         self.rest
     }
 
-    pub(crate) fn is_at_end(&self) -> bool
+    pub fn is_at_end(&self) -> bool
         ensures { result ≡ (length self.now.left == 0) }
     {
         self.rest.is_empty()
@@ -62,7 +62,7 @@ impl<'a> Cursor<'a> {
 
     /// The next byte, and 0 at the end.
     #[inline(always)]
-    pub(crate) fn peek(&self) -> u8
+    pub fn peek(&self) -> u8
         ensures { result ≡ head self.now }
     {
         match self.rest.as_bytes() {
@@ -85,7 +85,7 @@ impl<'a> Cursor<'a> {
 
     /// Passes the next byte.
     #[inline(always)]
-    pub(crate) fn step(&mut self)
+    pub fn step(&mut self)
         requires some { 0 < head self.old }
         requires ascii { head self.old < 128 }
         ensures moved { self.new ≡ past 1 self.old }
@@ -96,7 +96,7 @@ impl<'a> Cursor<'a> {
     }
 
     #[inline(always)]
-    pub(crate) fn skip_blanks(&mut self)
+    pub fn skip_blanks(&mut self)
         ensures moved { self.new ≡ blanks self.old }
         ensures no_longer { length self.new.left ≤ length self.old.left }
     {
@@ -115,7 +115,7 @@ impl<'a> Cursor<'a> {
 
     /// The bytes that stand for themselves, up to one that doesn't.
     #[inline(always)]
-    pub(crate) fn plain_run(&mut self) -> &'a str
+    pub fn plain_run(&mut self) -> &'a str
         ensures run { result.now ≡ take (prefix_len is_plain self.old.left) self.old.left }
         ensures moved { self.new ≡ behind is_plain self.old }
         ensures no_longer { length self.new.left ≤ length self.old.left }
@@ -128,7 +128,7 @@ impl<'a> Cursor<'a> {
 
     /// Passes this byte, or says that it isn't next.
     #[inline(always)]
-    pub(crate) fn expect(&mut self, wanted: u8) -> Result<(), JsonFault>
+    pub fn expect(&mut self, wanted: u8) -> Result<(), JsonFault>
         requires some { 0 < wanted }
         requires ascii { wanted < 128 }
         ensures gives { Gives (λ _. self.new) fault_of result (this wanted self.old) }

@@ -43,8 +43,9 @@ fn read_document(alloc: Global, text: &str, depth: u32) -> Result<Json, JsonFaul
     Ok(json)
 }
 
+/// The value that stands next.
 #[cycle(read)]
-fn value_of(alloc: Global, cursor: &mut Cursor<'_>, depth: u32) -> Result<Json, JsonFault>
+pub fn value_of(alloc: Global, cursor: &mut Cursor<'_>, depth: u32) -> Result<Json, JsonFault>
     ensures gives { Gives (λ json. (json, cursor.new)) fault_of result (value depth cursor.old) }
     ensures shorter { OnOk result (length cursor.new.left < length cursor.old.left) }
 {
@@ -127,8 +128,8 @@ fn member_of(alloc: Global, cursor: &mut Cursor<'_>, depth: u32) -> Result<(Text
     Ok((key, value))
 }
 
-// Whether nothing stands behind an opening byte. The closing one is then passed.
-fn is_closed(cursor: &mut Cursor<'_>, close: u8) -> bool
+/// Whether nothing stands behind an opening byte. The closing one is then passed.
+pub fn is_closed(cursor: &mut Cursor<'_>, close: u8) -> bool
     requires some { 0 < close }
     requires ascii { close < 128 }
     ensures closed { result ≡ true → (head (blanks cursor.old) ≡ close) × (cursor.new ≡ past 1 (blanks cursor.old)) }
@@ -144,8 +145,8 @@ fn is_closed(cursor: &mut Cursor<'_>, close: u8) -> bool
     false
 }
 
-// Passes a comma, or the byte that closes, and tells whether it was the comma.
-fn goes_on(cursor: &mut Cursor<'_>, close: u8) -> Result<bool, JsonFault>
+/// Passes a comma, or the byte that closes, and tells whether it was the comma.
+pub fn goes_on(cursor: &mut Cursor<'_>, close: u8) -> Result<bool, JsonFault>
     requires some { 0 < close }
     requires ascii { close < 128 }
     ensures gives { Gives (λ goes. (goes, cursor.new)) fault_of result (spec.comma_or close (blanks cursor.old)) }

@@ -12,7 +12,7 @@ use pdata_value::Text;
 use std::alloc::Global;
 
 /// Passes a text. One without escapes is copied at once.
-pub(crate) fn text(alloc: Global, cursor: &mut Cursor<'_>) -> Result<Text, JsonFault>
+pub fn text(alloc: Global, cursor: &mut Cursor<'_>) -> Result<Text, JsonFault>
     ensures gives { Gives (λ t. (t, cursor.new)) fault_of result (spec.quoted cursor.old) }
     ensures shorter { OnOk result (length cursor.new.left < length cursor.old.left) }
 {

@@ -14,3 +14,9 @@ pub mod Sound
 pub mod TreesFree
 pub mod TreesSound
 pub mod ReadBack
+pub mod Once
+pub mod Passing
+pub mod Filling
+pub mod ObjectsPassed
+pub mod OneKind
+pub mod PairValue

@@ -15,3 +15,5 @@ pub use Rattle.json_text.specs.Reading
 -- Inside this crate: numbers that fit, and members as they are written.
 pub mod Digits
 pub mod Adding
+-- Inside this crate: reading straight from the text.
+pub mod Direct

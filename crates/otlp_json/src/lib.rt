@@ -2,6 +2,7 @@
 #![tactic(auto)]
 
 mod counts;
+mod direct;
 mod error;
 mod fields;
 mod laws;

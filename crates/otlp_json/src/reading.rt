@@ -8,6 +8,7 @@ ghost use Rattle.otlp_json.specs.Trees.{batch_table, batch_in, resources_in};
 ghost use Rattle.otlp_json.specs.Payload.{payload};
 
 use crate::counts::Counts;
+use crate::direct::{Bend, read_direct};
 use crate::error::{PayloadKind, PayloadStop, stop};
 use crate::fields::items_of;
 use crate::resource::resource_logs_of;
@@ -17,7 +18,7 @@ use pdata_tree::{Batch, Resources};
 use std::alloc::Global;
 
 /// Lists and objects of a payload nest at most so deep.
-const CONTAINERS: u32 = 300;
+pub(crate) const CONTAINERS: u32 = 300;
 
 #[tactic(auto, unfolding(crate::specs::Trees::resources_in))]
 fn resources_of(alloc: Global, counts: &mut Counts, json: &Json) -> Result<Resources, PayloadStop>
@@ -67,11 +68,11 @@ fn batch_of(alloc: Global, counts: &mut Counts, json: &Json) -> Result<Batch, Pa
     Ok(batch)
 }
 
-/// The payload that the line is.
+// The payload that the line is, by the way that takes every line.
 #[tactic(auto, unfolding(crate::specs::Payload::payload))]
-pub fn read_payload(alloc: Global, line: &[u8]) -> Result<Batch, PayloadStop>
+fn read_general(alloc: Global, line: &[u8]) -> Result<Batch, PayloadStop>
     requires { length line.now ≤ 16777216 }
-    ensures value { Gives (λ batch. batch) fault_of result (payload line.now) }
+    ensures { Gives (λ batch. batch) fault_of result (payload line.now) }
 {
     let mut counts = Counts::new();
     match read(alloc, line, CONTAINERS) {
@@ -80,5 +81,21 @@ pub fn read_payload(alloc: Global, line: &[u8]) -> Result<Batch, PayloadStop>
         Err(JsonFault::BadJson(at)) => Err(stop(PayloadKind::BadJson, at)),
         Err(JsonFault::TooDeep(at)) => Err(stop(PayloadKind::TooDeep, at)),
         Err(JsonFault::NoMemory) => Err(PayloadStop::NoMemory),
+    }
+}
+
+/// The payload that the line is. A usual line is read straight into its tree.
+pub fn read_payload(alloc: Global, line: &[u8]) -> Result<Batch, PayloadStop>
+    requires { length line.now ≤ 16777216 }
+    ensures value { Gives (λ batch. batch) fault_of result (payload line.now) }
+{
+    let text = match str::from_utf8(line) {
+        Ok(text) => text,
+        Err(_) => return read_general(alloc, line),
+    };
+    match read_direct(alloc, text) {
+        Ok(batch) => Ok(batch),
+        Err(Bend::NoMemory) => Err(PayloadStop::NoMemory),
+        Err(Bend::Unusual) => read_general(alloc, line),
     }
 }

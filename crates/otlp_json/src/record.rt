@@ -51,7 +51,7 @@ fn read_member(
     Ok(())
 }
 
-fn empty_record(alloc: Global) -> LogRecord
+pub(crate) fn empty_record(alloc: Global) -> LogRecord
     ensures { result ≡ empty_record }
 {
     LogRecord {

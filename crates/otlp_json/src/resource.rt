@@ -18,7 +18,7 @@ use pdata_tree::{ResourceNode, ResourceTree, Scopes};
 use pdata_value::{Pairs, Text};
 use std::alloc::Global;
 
-fn empty_resource(alloc: Global) -> ResourceNode
+pub(crate) fn empty_resource(alloc: Global) -> ResourceNode
     ensures { result ≡ spec.empty_resource }
 {
     ResourceNode {
@@ -74,7 +74,7 @@ fn scopes_of(alloc: Global, counts: &mut Counts, json: &Json) -> Result<Scopes, 
 }
 
 // Gives the element this resource, and leaves its schema.
-fn put_resource(element: &mut ResourceTree, resource: ResourceNode)
+pub(crate) fn put_resource(element: &mut ResourceTree, resource: ResourceNode)
     ensures { element.new ≡ with_resource element.old resource }
 {
     let ResourceNode {
@@ -84,6 +84,15 @@ fn put_resource(element: &mut ResourceTree, resource: ResourceNode)
     } = resource;
     element.node.attributes = attributes;
     element.node.dropped = dropped;
+}
+
+pub(crate) fn empty_resource_logs(alloc: Global) -> ResourceTree
+    ensures { result ≡ spec.empty_resource_logs }
+{
+    ResourceTree {
+        node: empty_resource(alloc),
+        scopes: ItemList::new(alloc),
+    }
 }
 
 #[tactic(auto, unfolding(crate::specs::Trees::resource_logs_table))]
@@ -120,10 +129,7 @@ pub(crate) fn resource_logs_of(
 {
     count_holder(counts, json.at)?;
     let mut rest = members_of(json)?;
-    let mut element = ResourceTree {
-        node: empty_resource(alloc),
-        scopes: ItemList::new(alloc),
-    };
+    let mut element = empty_resource_logs(alloc);
     while let [member, behind @ ..] = rest {
         read_member(alloc, counts, member, behind, &mut element)?;
         rest = behind;

@@ -18,7 +18,7 @@ use pdata_tree::{Logs, ScopeNode, ScopeTree};
 use pdata_value::{Pairs, Text};
 use std::alloc::Global;
 
-fn empty_scope(alloc: Global) -> ScopeNode
+pub(crate) fn empty_scope(alloc: Global) -> ScopeNode
     ensures { result ≡ spec.empty_scope }
 {
     ScopeNode {
@@ -80,7 +80,7 @@ fn records_of(alloc: Global, counts: &mut Counts, json: &Json) -> Result<Logs, P
 }
 
 // Gives the element this scope, and leaves its schema.
-fn put_scope(element: &mut ScopeTree, scope: ScopeNode)
+pub(crate) fn put_scope(element: &mut ScopeTree, scope: ScopeNode)
     ensures { element.new ≡ with_scope element.old scope }
 {
     let ScopeNode {
@@ -94,6 +94,15 @@ fn put_scope(element: &mut ScopeTree, scope: ScopeNode)
     element.node.version = version;
     element.node.attributes = attributes;
     element.node.dropped = dropped;
+}
+
+pub(crate) fn empty_scope_logs(alloc: Global) -> ScopeTree
+    ensures { result ≡ spec.empty_scope_logs }
+{
+    ScopeTree {
+        node: empty_scope(alloc),
+        logs: ItemList::new(alloc),
+    }
 }
 
 #[tactic(auto, unfolding(crate::specs::Trees::scope_logs_table))]
@@ -130,10 +139,7 @@ pub(crate) fn scope_logs_of(
 {
     count_holder(counts, json.at)?;
     let mut rest = members_of(json)?;
-    let mut element = ScopeTree {
-        node: empty_scope(alloc),
-        logs: ItemList::new(alloc),
-    };
+    let mut element = empty_scope_logs(alloc);
     while let [member, behind @ ..] = rest {
         read_member(alloc, counts, member, behind, &mut element)?;
         rest = behind;

@@ -1,5 +1,7 @@
 //! What given lines are read as, and how they are written.
 
+mod direct;
+
 use crate::{
     PayloadStop, cut_lines_are_refused, lines_read_back, push_line, read_payload, write_line,
 };

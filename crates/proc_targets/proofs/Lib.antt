@@ -1,3 +1,6 @@
 pub mod Stops
 pub mod Flags
+pub mod Stepping
+pub mod Inside
+mod Rooted
 mod Turns

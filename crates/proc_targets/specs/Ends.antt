@@ -4,6 +4,8 @@ use Rattle.conf_json.specs.Account.{Account}
 use Rattle.conf_json.specs.declared.account.Note.{Note}
 use Rattle.conf_json.specs.declared.account.PlainStop.{PlainStop}
 use Rattle.conf_json.specs.declared.account.PlainStop.TheVariants.{Failed, NoMemory}
+use Rattle.conf_json.specs.declared.account.StepEnd.{StepEnd}
+use Rattle.conf_json.specs.declared.account.StepEnd.TheVariants as end
 use Rattle.conf_draft.specs.declared.draft.ErrorMode.{ErrorMode}
 use Rattle.conf_draft.specs.declared.draft.ErrorMode.TheVariants.{Propagate}
 
@@ -36,3 +38,13 @@ StopsUnder mode NoMemory = ⊤
 abbrev pub FailsUnder : {X : Type 0} → ErrorMode → Result X PlainStop → Type 0
 FailsUnder mode (Ok _) = ⊤
 FailsUnder mode (Err stop) = StopsUnder mode stop
+
+-- how a step ends that was stopped
+abbrev pub end_at : PlainStop → StepEnd
+end_at (Failed note) = end.Failed note
+end_at NoMemory = end.NoMemory
+
+-- a note ends a step under propagate alone
+abbrev pub EndsUnder : ErrorMode → StepEnd → Type 0
+EndsUnder mode (end.Failed note) = mode ≡ Propagate
+EndsUnder mode _ = ⊤

@@ -1,6 +1,6 @@
 //! Conditions on a target.
 
-ghost use Rattle.std.specs.Prelude.{◌≡◌};
+ghost use Rattle.std.specs.Prelude.{◌≡◌, OnErr};
 ghost use Rattle.ottl_eval.specs.Stages.{stage};
 ghost use Rattle.ottl_eval.specs.Values.{holds};
 ghost use Rattle.pdata_tree.specs.Operations.{log_trees};
@@ -39,6 +39,30 @@ pub fn any_holds<'p, S: Scene>(
         }
     }
     Ok(false)
+}
+
+/// As `any_holds`; where it is stopped, the account is as it was before.
+pub fn any_holds_whole<'p, S: Scene>(
+    alloc: Global,
+    scene: &S,
+    matchers: &mut KeptMatchers<'p>,
+    conditions: &'p [PlannedCondition],
+    spot: &Spot,
+    book: &mut NoteBook,
+) -> Result<bool, PlainStop>
+    requires { S.stands scene.now }
+    ensures value { Ends book.new result (spec.any_holds log_trees spot.now 0 conditions.now
+        (stage (S.tree scene.now) (S.kind scene.now) (S.place scene.now) no_pairs) book.old) }
+    ensures stays { Stays spot.now.mode book.old book.new }
+    ensures failed { FailsUnder spot.now.mode result }
+    ensures back { OnErr result (book.new ≡ book.old) }
+{
+    let before = book.copy();
+    let answer = any_holds(alloc, scene, matchers, conditions, spot, book);
+    if answer.is_err() {
+        *book = before;
+    }
+    answer
 }
 
 /// Whether the condition with this number holds, with the empty cache. One that errs doesn't hold

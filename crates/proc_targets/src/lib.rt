@@ -4,9 +4,11 @@
 mod judging;
 mod memory;
 mod places;
+mod root_places;
 mod spot;
 
-pub use judging::{any_holds, judge};
-pub use memory::{narrow, or_stop};
+pub use judging::{any_holds, any_holds_whole, judge};
+pub use memory::{end_of, narrow, one_more, or_stop};
 pub use places::list_targets;
+pub use root_places::list_targets_of;
 pub use spot::{Spot, meet};

@@ -1,8 +1,9 @@
 //! Want of memory in the work of a component.
 
-ghost use Rattle.std.specs.Prelude.{◌≡◌, Ok, IfOk, IfErr};
+ghost use Rattle.std.specs.Prelude.{◌≡◌, Ok, IfOk, IfErr, suc};
+ghost use Rattle.proc_targets.specs.Ends.{end_at};
 
-use conf_json::PlainStop;
+use conf_json::{PlainStop, StepEnd};
 use std::alloc::AllocError;
 
 /// The number as places and notes have it. Numbers past 32 bits want more memory than there is.
@@ -23,5 +24,22 @@ pub fn or_stop<T: Drop>(made: Result<T, AllocError>) -> Result<T, PlainStop>
     match made {
         Ok(value) => Ok(value),
         Err(_) => Err(PlainStop::NoMemory),
+    }
+}
+
+/// The number behind a number of steps. Steps past 64 bits want more memory than there is.
+pub fn one_more(number: u64) -> Result<u64, AllocError>
+    ensures { IfOk result (λ more. more ≡ suc number) }
+{
+    number.checked_add(1).ok_or(AllocError)
+}
+
+/// How a step ends that was stopped.
+pub fn end_of(stop: PlainStop) -> StepEnd
+    ensures { result ≡ end_at stop }
+{
+    match stop {
+        PlainStop::Failed(note) => StepEnd::Failed(note),
+        PlainStop::NoMemory => StepEnd::NoMemory,
     }
 }

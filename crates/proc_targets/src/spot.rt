@@ -1,6 +1,6 @@
 //! Where conditions and statements run, and what an error there does.
 
-ghost use Rattle.std.specs.Prelude.{◌≡◌};
+ghost use Rattle.std.specs.Prelude.{◌≡◌, OnErr};
 ghost use Rattle.conf_json.specs.Account.{under};
 ghost use Rattle.proc_targets.specs.Ends.{EndsAs, FailsUnder, Stays};
 ghost use Rattle.proc_targets.specs.Judging.{note_at};
@@ -43,6 +43,7 @@ pub fn meet(book: &mut NoteBook, spot: &Spot, index: usize, err: EvalErr) -> Res
         (under spot.now.mode (note_at spot.now index err) book.old) }
     ensures stays { Stays spot.now.mode book.old book.new }
     ensures failed { FailsUnder spot.now.mode result }
+    ensures back { OnErr result (book.new ≡ book.old) }
 {
     let index = or_stop(narrow(index))?;
     meet_note(book, spot.mode, spot.note(index, err))
@@ -53,6 +54,7 @@ fn meet_note(book: &mut NoteBook, mode: ErrorMode, note: Note) -> Result<(), Pla
     ensures value { EndsAs book.new result (under mode note book.old) }
     ensures stays { Stays mode book.old book.new }
     ensures failed { FailsUnder mode result }
+    ensures back { OnErr result (book.new ≡ book.old) }
 {
     match book.meet(mode, note) {
         Ok(()) => Ok(()),

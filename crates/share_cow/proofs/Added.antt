@@ -92,16 +92,16 @@ module _ {D : Type 0} (make : D → List Part → Part) (s t : Places (Node D)) 
     counted = λ p h. refl;
   }
 
-  names_new : list_at (map children_of t.slots) place ≡ node.children
+  pub names_new : list_at (map children_of t.slots) place ≡ node.children
   names_new = names_at t place ∙ ap (λ (slot : Option (Node D × ℕ)). names (option_map (λ kept. kept.0) slot)) (add_slot s t place node add)
 
-  names_old : list_at (map children_of s.slots) place ≡ []
+  pub names_old : list_at (map children_of s.slots) place ≡ []
   names_old = names_at s place ∙ ap (λ (slot : Option (Node D × ℕ)). names (option_map (λ kept. kept.0) slot)) add.slots.was_free
 
-  names_other : (p : ℕ) → p ≢ place → list_at (map children_of t.slots) p ≡ list_at (map children_of s.slots) p
+  pub names_other : (p : ℕ) → p ≢ place → list_at (map children_of t.slots) p ≡ list_at (map children_of s.slots) p
   names_other p d = names_same s t p (ap (option_map (λ kept. kept.0)) (add_other s t place node add p d))
 
-  add_value : (below : List (Level Part)) → value nothing (level_of make t ∷ below) place ≡ make node.content (map (value nothing below) node.children)
+  pub add_value : (below : List (Level Part)) → value nothing (level_of make t ∷ below) place ≡ make node.content (map (value nothing below) node.children)
   add_value below =
       let item = ap (option_map (λ kept. kept.0)) (add_slot s t place node add) in
       ap (λ (o : Option (Node D)). built make o (map (value nothing below) (list_at (map children_of t.slots) place))) item
@@ -163,3 +163,10 @@ module _ {D : Type 0} (s t : Places (Node D)) (place : ℕ) (node : Node D) (add
     };
     added = add.added;
   }
+
+-- what a node that came names
+pub added_names : {D : Type 0} (s t : Places (Node D)) (place : ℕ) (node : Node D) → Adds s t place node → list_at (map children_of t.slots) place ≡ node.children
+added_names {D} s t place node add = names_at t place ∙ ap (λ (slot : Option (Node D × ℕ)). names (option_map (λ kept. kept.0) slot)) (add_slot s t place node add)
+
+pub added_live : {D : Type 0} (s t : Places (Node D)) (place : ℕ) (node : Node D) → Adds s t place node → 0 < count_at t place
+added_live s t place node add = omega (arith, add_counts s t place node add place, times_head place [])

@@ -27,7 +27,7 @@ new_on l m n p (inl a) (inr b) = inr (sym a ∙ b.0, b.1)
 new_on l m n p (inr a) (inl b) = inr (a.0, b ∙ a.1)
 new_on l m n p (inr a) (inr b) = absurd (omega (arith, a.1, b.0))
 
-still : (l m : Level Part) (p : ℕ) → New l m p → 0 < l.count p → 0 < m.count p
+pub still : (l m : Level Part) (p : ℕ) → New l m p → 0 < l.count p → 0 < m.count p
 still l m p (inl a) h = omega (arith, a, h)
 still l m p (inr a) h = omega (arith, a.1)
 
@@ -35,7 +35,7 @@ pub more_refl : (ls : List (Level Part)) → AllMore ls ls
 more_refl [] = tt
 more_refl (l ∷ ls) = (λ p. inl refl, more_refl ls)
 
-more_on : (ls ms ns : List (Level Part)) → AllMore ls ms → AllMore ms ns → AllMore ls ns
+pub more_on : (ls ms ns : List (Level Part)) → AllMore ls ms → AllMore ms ns → AllMore ls ns
 more_on [] [] [] a b = tt
 more_on [] [] (n ∷ ns) a b = absurd b
 more_on [] (m ∷ ms) ns a b = absurd a
@@ -43,20 +43,36 @@ more_on (l ∷ ls) [] ns a b = absurd a
 more_on (l ∷ ls) (m ∷ ms) [] a b = absurd b
 more_on (l ∷ ls) (m ∷ ms) (n ∷ ns) a b = (λ p. new_on l m n p (a.0 p) (b.0 p), more_on ls ms ns a.1 b.1)
 
-agree_more : (ls ms ns : List (Level Part)) → AllAgree ls ls ms → AllAgree ms ms ns → AllMore ls ms → AllAgree ls ls ns
-agree_more [] [] [] a b f = tt
-agree_more [] [] (n ∷ ns) a b f = absurd b
-agree_more [] (m ∷ ms) ns a b f = absurd a
-agree_more (l ∷ ls) [] ns a b f = absurd a
-agree_more (l ∷ ls) (m ∷ ms) [] a b f = absurd b
-agree_more (l ∷ ls) (m ∷ ms) (n ∷ ns) a b f = (
+-- what counts counts still
+abbrev pub AllStill : List (Level Part) → List (Level Part) → Type 0
+AllStill [] [] = Unit {0}
+AllStill [] (m ∷ ms) = ⊥
+AllStill (l ∷ ls) [] = ⊥
+AllStill (l ∷ ls) (m ∷ ms) = ((p : ℕ) → 0 < l.count p → 0 < m.count p) × AllStill ls ms
+
+still_all : (ls ms : List (Level Part)) → AllMore ls ms → AllStill ls ms
+still_all [] [] more = tt
+still_all [] (m ∷ ms) more = absurd more
+still_all (l ∷ ls) [] more = absurd more
+still_all (l ∷ ls) (m ∷ ms) more = (λ p h. still l m p (more.0 p) h, still_all ls ms more.1)
+
+pub agree_still : (ls ms ns : List (Level Part)) → AllAgree ls ls ms → AllAgree ms ms ns → AllStill ls ms → AllAgree ls ls ns
+agree_still [] [] [] a b f = tt
+agree_still [] [] (n ∷ ns) a b f = absurd b
+agree_still [] (m ∷ ms) ns a b f = absurd a
+agree_still (l ∷ ls) [] ns a b f = absurd a
+agree_still (l ∷ ls) (m ∷ ms) [] a b f = absurd b
+agree_still (l ∷ ls) (m ∷ ms) (n ∷ ns) a b f = (
   record {
-    children = λ p h. b.0.children p (still l m p (f.0 p) h) ∙ a.0.children p h;
-    builds = λ p h. b.0.builds p (still l m p (f.0 p) h) ∙ a.0.builds p h;
+    children = λ p h. b.0.children p (f.0 p h) ∙ a.0.children p h;
+    builds = λ p h. b.0.builds p (f.0 p h) ∙ a.0.builds p h;
     counted = λ p h. refl;
   },
-  agree_more ls ms ns a.1 b.1 f.1,
+  agree_still ls ms ns a.1 b.1 f.1,
 )
+
+agree_more : (ls ms ns : List (Level Part)) → AllAgree ls ls ms → AllAgree ms ms ns → AllMore ls ms → AllAgree ls ls ns
+agree_more ls ms ns a b f = agree_still ls ms ns a b (still_all ls ms f)
 
 -- where nothing comes
 pub grows_none : (l : Level Part) (ls : List (Level Part)) → AllCounted (l ∷ ls) → Grows [] [] l l ls ls
@@ -112,7 +128,7 @@ children_back l m n a b tl tn same p = elim (some_or_none (l.count p)) as (λ x.
   | inr e ↦ tn p (same p ∙ e) ∙ sym (tl p e)
 ]
 
-back : (l m n : Level Part) (ls ms ns : List (Level Part)) → AllAgree (l ∷ ls) (l ∷ ls) (m ∷ ms) → AllAgree (n ∷ ns) (m ∷ ms) (n ∷ ns) → AllTidy (l ∷ ls) → AllTidy (n ∷ ns)
+pub back : (l m n : Level Part) (ls ms ns : List (Level Part)) → AllAgree (l ∷ ls) (l ∷ ls) (m ∷ ms) → AllAgree (n ∷ ns) (m ∷ ms) (n ∷ ns) → AllTidy (l ∷ ls) → AllTidy (n ∷ ns)
     → AllCounted (l ∷ ls) → AllCounted (n ∷ ns) → ((p : ℕ) → n.count p ≡ l.count p) → AllSame (l ∷ ls) (n ∷ ns) × AllAgree (l ∷ ls) (l ∷ ls) (n ∷ ns)
 back l m n [] [] [] a b tl tn cl cn same = (
   (same, tt),
@@ -150,7 +166,7 @@ restored xs P l m n ls ms ns g low counted tl tn =
     let both = back l m n ls ms ns g.agree low.agree tl tn counted low.counted (λ p. omega (arith, g.counts p, low.counts p)) in
     record { counts = both.0; agree = both.1; counted = low.counted }
 
-same_refl : (ls : List (Level Part)) → AllSame ls ls
+pub same_refl : (ls : List (Level Part)) → AllSame ls ls
 same_refl [] = tt
 same_refl (l ∷ ls) = (λ p. refl, same_refl ls)
 
@@ -169,7 +185,7 @@ spent_by s t u v n kept a b d = record { kept = d.kept; added = omega (arith, a.
 pub spent_refl : {D : Type 0} (s : Places (Node D)) → IsKept s → Spent s s
 spent_refl s kept = record { kept = kept; added = omega arith }
 
-restored_more : (ls ms ns : List (Level Part)) → AllMore ls ms → AllSame ms ns → AllMore ls ns
+pub restored_more : (ls ms ns : List (Level Part)) → AllMore ls ms → AllSame ms ns → AllMore ls ns
 restored_more [] [] [] a b = tt
 restored_more [] [] (n ∷ ns) a b = absurd b
 restored_more [] (m ∷ ms) ns a b = absurd a

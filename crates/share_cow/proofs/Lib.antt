@@ -8,6 +8,9 @@ pub mod Falling
 pub mod Release
 pub mod Added
 pub mod Growing
+pub mod Parts
+pub mod PartTrees
+pub mod PartResources
 pub mod Apart
 pub mod Unshared
 pub mod Looks
@@ -40,7 +43,9 @@ pub mod WriteScope
 pub mod WriteLog
 pub mod Inside
 pub mod Flagged
-pub mod Selected
 pub mod Sizes
 pub mod Keying
-pub mod Retained
+pub mod Comes
+pub mod Replaced
+pub mod PartComes
+pub mod WholeComes

@@ -1,23 +1,26 @@
 -- A root more for new nodes, and all roots where none came.
-use Rattle.std.proofs.Common.{◌≡◌, ◌≢◌, ◌+◌, ◌<◌, ◌≤◌, ◌^◌, ℕ, zero, suc, false, List, [], ◌∷◌, length, map, take, Option, Some, None, refl, ap, sym, ◌∙◌, subst, arith, inl, inr}
-use Rattle.std.specs.Prelude.{count_by, is_some, ◌==◌}
-use Rattle.std.proofs.lemmas.Bool.Decides.{eqb_tells}
-use Rattle.pdata_tree.specs.Tree.{nodes_of_resources, nodes_of_scopes, records_of_resources, records_of_scopes}
+use Rattle.std.proofs.Common.{◌≡◌, ◌+◌, ◌<◌, ◌≤◌, ℕ, false, List, [], ◌∷◌, length, map, take, Option, refl, ap, sym, ◌∙◌, arith, inl, inr}
+use Rattle.pdata_tree.specs.Tree.{nodes, nodes_of_resources, nodes_of_scopes, records_of_resources, records_of_scopes}
 use Rattle.pdata_tree.specs.declared.resource.ResourceTree.{ResourceTree}
 use Rattle.pdata_tree.specs.declared.scope.ScopeTree.{ScopeTree}
 use Rattle.pdata_tree.specs.declared.batch.Batch.{Batch}
-use Rattle.shelf.specs.Places.{count_at}
-use Rattle.share_cow.specs.Kept.{AllStay, OthersStay, SameTree}
-use Rattle.share_cow.specs.Levels.{AllCounted, Counted, IsApart, Level, named, shared_places, stands, sum_over, times, value}
+use Rattle.pdata_tree.specs.declared.record.LogRecord.{LogRecord}
+use Rattle.pdata_tree.specs.declared.resource.ResourceNode.{ResourceNode}
+use Rattle.pdata_tree.specs.declared.scope.ScopeNode.{ScopeNode}
+use Rattle.shelf.specs.Places.{Places, count_at}
+use Rattle.share_cow.specs.Kept.{AllStay, SameTree}
+use Rattle.share_cow.specs.Levels.{AllCounted, Level, named, shared_places, stands, sum_over, times}
 use Rattle.share_cow.specs.Lowering.{AllAgree}
 use Rattle.share_cow.specs.Planting.{AllMore, AllSame, Grows, Restores, scopes_of_resources}
-use Rattle.share_cow.specs.Store.{IsKept, IsSound, Part, Store, a_batch, as_batch, batch_level, batch_made, batch_named, den, first_part, levels, log_level, log_made, made, nothing, resource_level, resource_made, root_at, root_level, scope_level, scope_made, shared, tree_levels}
+use Rattle.share_cow.specs.Store.{IsKept, IsSound, Part, Store, a_batch, batch_level, batch_made, batch_named, first_part, log_level, log_made, made, resource_level, resource_levels, resource_made, root_at, scope_level, scope_made, shared, tree_levels}
+use Rattle.share_cow.specs.declared.node.Node.{Node}
 use Rattle.share_cow.proofs.Added.{newer}
+use Rattle.share_cow.proofs.Comes.{Comes, new_stays}
 use Rattle.share_cow.proofs.Apart.{new_apart}
 use Rattle.share_cow.proofs.Growing.{New, tidy_level}
-use Rattle.share_cow.proofs.Lists.{named_but, sum_below, times_at, times_head}
-use Rattle.share_cow.proofs.Same.{FewerFrom, SameFrom, one_at_most, same_from, shared_fewer}
-use Rattle.share_cow.proofs.Table.{apart_same, den_same, live_root, root_list}
+use Rattle.share_cow.proofs.Lists.{sum_below, times_at, times_head}
+use Rattle.share_cow.proofs.Same.{FewerFrom, SameFrom, same_from, shared_fewer}
+use Rattle.share_cow.proofs.Table.{apart_same, den_same, live_root}
 use Rattle.share_cow.proofs.Unshared.{new_unshared}
 
 still_few : (l m : Level Part) (p : ℕ) → New l m p → 0 < l.count p → m.count p ≤ l.count p
@@ -82,90 +85,56 @@ module _ (s s2 : Store) (sound : IsSound s) (roots : s2.roots ≡ s.roots) (most
     most = rw most sound.most;
   }
 
--- a root for a node stands for the node's payload
-pub plant_tree : (s2 : Store) (key place : ℕ) (tree : Batch) → root_at s2 key ≡ Some place → map (value nothing (tree_levels s2)) (place ∷ []) ≡ a_batch tree ∷ [] → den s2 key ≡ Some tree
-plant_tree s2 key place tree set values =
-    ap (λ (qs : List ℕ). as_batch (first_part (map (value nothing (tree_levels s2)) qs))) (root_list s2.roots key ∙ ap batch_named set)
-    ∙ ap (λ (parts : List Part). as_batch (first_part parts)) values
-
--- where a new root came
-module _ (s s2 : Store) (key place : ℕ) (tree : Batch) (sound : IsSound s) (free : root_at s key ≡ None) (set : root_at s2 key ≡ Some place)
-    (others : (other : ℕ) → other ≢ key → root_at s2 other ≡ root_at s other)
-    (g : Grows (place ∷ []) (a_batch tree ∷ []) (batch_level s.batches) (batch_level s2.batches)
-    (resource_level s.resources ∷ scope_level s.scopes ∷ log_level s.logs ∷ [])
-    (resource_level s2.resources ∷ scope_level s2.scopes ∷ log_level s2.logs ∷ [])) where
-  all_more : AllMore (tree_levels s) (tree_levels s2)
+-- a planted payload comes beside those that roots name, and shares nothing
+module _ (s : Store) (root place : ℕ) (tree : Batch) (sound : IsSound s) (b : Places (Node Unit)) (r : Places (Node ResourceNode)) (c : Places (Node ScopeNode)) (l : Places (Node LogRecord))
+    (g : Grows (place ∷ []) (a_batch tree ∷ []) (batch_level s.batches) (batch_level b) (resource_levels s.resources s.scopes s.logs) (resource_levels r c l)) where
+  all_more : AllMore (tree_levels s) (batch_level b ∷ resource_levels r c l)
   all_more = (
-    newer (place ∷ []) (a_batch tree ∷ []) (batch_level s.batches) (batch_level s2.batches)
-        (resource_level s.resources ∷ scope_level s.scopes ∷ log_level s.logs ∷ [])
-        (resource_level s2.resources ∷ scope_level s2.scopes ∷ log_level s2.logs ∷ []) g,
+    newer (place ∷ []) (a_batch tree ∷ []) (batch_level s.batches) (batch_level b) (resource_levels s.resources s.scopes s.logs) (resource_levels r c l) g,
     g.more,
   )
 
   was_new : count_at s.batches place ≡ 0
   was_new = omega (arith, g.counts place, g.fresh place (omega (arith, times_head place [])), times_head place [])
 
-  roots_counted : Counted (root_level s2.roots) (batch_level s2.batches)
-  roots_counted p =
-      omega (
-        arith,
-        named_but p (map batch_named s.roots) (map batch_named s2.roots) key
-            (λ j d. root_list s2.roots j ∙ ap batch_named (others j d) ∙ sym (root_list s.roots j)),
-        ap (times p) (root_list s.roots key ∙ ap batch_named free),
-        ap (times p) (root_list s2.roots key ∙ ap batch_named set),
-        g.counts p,
-        sound.counts.0 p,
-      )
-
-  pub plant_others : OthersStay key s s2
-  plant_others = record {
-    trees = λ other d. same_tree s s2 sound g.agree all_more other (others other d);
-    shared = λ other d. same_shared s s2 sound g.agree all_more other (others other d);
-  }
-
-  -- and none of its tree's places is shared
-  pub plant_unshared : shared s2 key ≡ 0
+  plant_unshared : shared_places false (batch_level b ∷ resource_levels r c l) place ≡ 0
   plant_unshared =
-      omega (
-        arith,
-        ap (λ (o : Option ℕ). sum_over (shared_places false (tree_levels s2)) (batch_named o)) set,
-        new_unshared (batch_level s.batches) (batch_level s2.batches) (resource_level s.resources ∷ scope_level s.scopes ∷ log_level s.logs ∷ [])
-            (resource_level s2.resources ∷ scope_level s2.scopes ∷ log_level s2.logs ∷ []) sound.counts.1 g.counted g.agree (
-              tidy_level batch_made s.batches sound.batches,
-              (
-                tidy_level resource_made s.resources sound.resources,
-                (
-                  tidy_level scope_made s.scopes sound.scopes,
-                  (tidy_level log_made s.logs sound.logs, tt),
-                ),
-              ),
-            ) all_more place was_new,
-      )
+      new_unshared (batch_level s.batches) (batch_level b) (resource_levels s.resources s.scopes s.logs) (resource_levels r c l) sound.counts.1 g.counted g.agree (
+        tidy_level batch_made s.batches sound.batches,
+        (
+          tidy_level resource_made s.resources sound.resources,
+          (
+            tidy_level scope_made s.scopes sound.scopes,
+            (tidy_level log_made s.logs sound.logs, tt),
+          ),
+        ),
+      ) all_more place was_new
 
-  key_apart : (batches : IsKept s.batches) (resources : IsKept s.resources) (scopes : IsKept s.scopes) → IsApart (levels s2) key
-  key_apart batches resources scopes zero q h = one_at_most (key == q)
-  key_apart batches resources scopes (suc depth) q h =
-      let below = new_apart (batch_level s.batches) (resource_level s.resources) (scope_level s.scopes) (log_level s.logs)
-      (batch_level s2.batches) (resource_level s2.resources) (scope_level s2.scopes) (log_level s2.logs)
-      sound.counts.1.0 sound.counts.1.1.0 sound.counts.1.1.1.0 g.counted.0 g.counted.1.0 g.counted.1.1.0
-      g.agree.0 g.agree.1.0 g.agree.1.1.0
-      (tidy_level batch_made s.batches batches) (tidy_level resource_made s.resources resources) (tidy_level scope_made s.scopes scopes)
-      g.more.0 g.more.1.0 g.more.1.1.0 place was_new depth q (omega (arith, h)) in
-      omega (arith, below, ap (sum_over (stands (take depth (tree_levels s2)) q)) (root_list s2.roots key ∙ ap batch_named set))
+  plant_apart : (depth q : ℕ) → depth < 4 → stands (take depth (batch_level b ∷ resource_levels r c l)) q place ≤ 1
+  plant_apart =
+      new_apart (batch_level s.batches) (resource_level s.resources) (scope_level s.scopes) (log_level s.logs) (batch_level b) (resource_level r) (scope_level c) (log_level l)
+      sound.counts.1.0 sound.counts.1.1.0 sound.counts.1.1.1.0 g.counted.0 g.counted.1.0 g.counted.1.1.0 g.agree.0 g.agree.1.0 g.agree.1.1.0
+      (tidy_level batch_made s.batches sound.batches) (tidy_level resource_made s.resources sound.resources) (tidy_level scope_made s.scopes sound.scopes)
+      g.more.0 g.more.1.0 g.more.1.1.0 place was_new
 
-  pub plant_sound : IsKept s2.batches → IsKept s2.resources → IsKept s2.scopes → IsKept s2.logs → count_by is_some s2.roots ≤ s2.most → s2.most < 2 ^ 32 → IsSound s2
-  plant_sound batches resources scopes logs fewer most = record {
-    counts = (roots_counted, g.counted);
-    apart = λ r. elim (eqb_tells r key) as (λ x. IsApart (levels s2) r) [
-      | inl t ↦ subst (λ (k : ℕ). IsApart (levels s2) k) (sym t.1) (key_apart sound.batches sound.resources sound.scopes)
-      | inr t ↦ apart_same s s2 r r (others r t.1) (same_at s s2 sound g.agree all_more r) (sound.apart r)
-    ];
-    batches = batches;
-    resources = resources;
-    scopes = scopes;
-    logs = logs;
-    roots = fewer;
-    most = most;
+  pub plant_comes : Comes s root place tree (nodes tree) b r c l
+  plant_comes = record {
+    counts = g.counts;
+    agree = g.agree;
+    counted = g.counted;
+    value = ap first_part g.values;
+    touched = (
+      λ p h. new_stays (batch_level s.batches) (batch_level b) p _ (all_more.0 p) h,
+      (
+        λ p h. new_stays (resource_level s.resources) (resource_level r) p _ (g.more.0 p) h,
+        (
+          λ p h. new_stays (scope_level s.scopes) (scope_level c) p _ (g.more.1.0 p) h,
+          (λ p h. new_stays (log_level s.logs) (log_level l) p _ (g.more.1.1.0 p) h, tt),
+        ),
+      ),
+    );
+    apart = plant_apart;
+    own = omega (arith, plant_unshared);
   }
 
 scope_nodes : (ss : List ScopeTree) → nodes_of_scopes ss ≡ length ss + records_of_scopes ss

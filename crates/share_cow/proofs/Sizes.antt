@@ -18,7 +18,7 @@ use Rattle.share_cow.proofs.Looks.{live_value, logs_length, named_logs, named_sc
 use Rattle.share_cow.proofs.Share.{batch_live}
 use Rattle.share_cow.proofs.Views.{root_tree}
 
-log_places : (logs : Places (Node LogRecord)) (qs : List ℕ) → sum_over (shared_places true (log_level logs ∷ [])) qs ≡ length qs
+pub log_places : (logs : Places (Node LogRecord)) (qs : List ℕ) → sum_over (shared_places true (log_level logs ∷ [])) qs ≡ length qs
 log_places logs [] = refl
 log_places logs (q ∷ qs) =
     omega (arith, log_places logs qs, all_none (shared_places {X = Part} true []) (list_at (map children_of logs.slots) q) (λ r h. refl))
@@ -36,7 +36,7 @@ module _ (scopes : Places (Node ScopeNode)) (logs : Places (Node LogRecord)) (co
       rw seen (omega (arith, rest, own, below))
 
   module _ (resources : Places (Node ResourceNode)) (upper : Counted (resource_level resources) (scope_level scopes)) where
-    resource_places : (qs : List ℕ) → Holds qs (resource_level resources)
+    pub resource_places : (qs : List ℕ) → Holds qs (resource_level resources)
         → nodes_of_resources (filter_map as_resource (map (value nothing (resource_levels resources scopes logs)) qs)) ≡ sum_over (shared_places true (resource_levels resources scopes logs)) qs
     resource_places [] live = refl
     resource_places (q ∷ qs) live =

@@ -13,4 +13,5 @@ pub mod RootLists
 -- Inside the crate: how nodes go and come.
 pub mod Lowering
 pub mod Planting
+pub mod Parting
 pub mod Owning

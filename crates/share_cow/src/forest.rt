@@ -136,6 +136,43 @@ impl Forest {
         }
     }
 
+    /// Another tree for a root in place of its own. Its nodes are made, and what only the old one
+    /// held goes.
+    pub fn replace(&mut self, root: &Root, tree: Batch) -> Result<(), AllocError>
+        requires { IsLiveRoot self.old root.now }
+        ensures tree { OnOk result (den self.new root.now ≡ Some tree) }
+        ensures live { IsLiveRoot self.new root.now }
+        ensures unshared { OnOk result (shared self.new root.now ≡ 0) }
+        ensures others { OnOk result (OthersStay root.now self.old self.new) }
+        ensures spare { spare self.new ≡ spare self.old }
+        ensures made { OnOk result
+            (made self.new ≡ min (made self.old + nodes tree) (2 ^ 128 - 1)) }
+        ensures err { OnErr result (AllStay self.old self.new) }
+        ensures sound { IsSound self.new }
+    {
+        let old = self.batch_at(root);
+        match plant_batch(
+            &mut self.batches,
+            &mut self.resources,
+            &mut self.scopes,
+            &mut self.logs,
+            tree,
+        ) {
+            Ok(place) => {
+                self.roots[root.place()] = place;
+                lower_batch(
+                    &mut self.batches,
+                    &mut self.resources,
+                    &mut self.scopes,
+                    &mut self.logs,
+                    old,
+                );
+                Ok(())
+            }
+            Err(error) => Err(error),
+        }
+    }
+
     /// Another root that stands for the same tree. It makes no node and takes no memory.
     pub fn share(&mut self, root: &Root) -> Root
         requires live { IsLiveRoot self.old root.now }

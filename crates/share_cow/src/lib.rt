@@ -7,6 +7,7 @@ mod looking;
 mod lowering;
 mod node;
 mod owning;
+mod parting;
 mod planting;
 mod root;
 mod scene;

@@ -18,7 +18,7 @@ use shelf::Shelf;
 use std::alloc::{AllocError, Global};
 
 // A node with these children; where memory runs out, they are handed back.
-fn add_node<D: Drop>(
+pub(crate) fn add_node<D: Drop>(
     shelf: &mut Shelf<Node<D>>,
     content: D,
     children: Children,

@@ -101,27 +101,6 @@ fn release(forest: &mut Forest, root: Root) {
     }
 }
 
-fn after_releases(alloc: Global, first_first: bool) -> Result<(u128, u32), AllocError> {
-    let mut forest = Forest::new(alloc, 2)?;
-    let first = forest.plant(one_record(alloc)?)?;
-    let second = forest.share(&first);
-    let (one, other) = if first_first {
-        (first, second)
-    } else {
-        (second, first)
-    };
-    release(&mut forest, one);
-    release(&mut forest, other);
-    Ok((forest.made(), forest.spare()))
-}
-
-#[test]
-fn roots_are_released_in_every_order(rt: HostRuntime) -> Result<(), Fail> {
-    assert_eq!(rt; after_releases(rt.alloc(), true)?, (4, 2));
-    assert_eq!(rt; after_releases(rt.alloc(), false)?, (4, 2));
-    Ok(())
-}
-
 fn counts_seen(view: &RootView<'_>) -> (u32, u32, u32, u64)
     requires { IsCountable view.now }
 {

@@ -1,6 +1,6 @@
 //! A group of statements on one target.
 
-ghost use Rattle.std.specs.Prelude.{◌≡◌, ◌≢◌, OnOk};
+ghost use Rattle.std.specs.Prelude.{◌≡◌, ◌≢◌, OnErr, OnOk};
 ghost use Rattle.ottl_eval.specs.Stages.{stage};
 ghost use Rattle.pdata_tree.specs.Operations.{log_trees};
 ghost use Rattle.proc_targets.specs.Ends.{Ends, EndsAs, FailsUnder, Stays};
@@ -8,13 +8,13 @@ ghost use Rattle.proc_targets.specs.Judging.{no_pairs};
 ghost use Rattle.transform_proc.specs.Meaning as spec;
 ghost use Rattle.transform_proc.specs.Meaning.{account_after, scene_run, statement_run};
 ghost use Rattle.transform_proc.specs.Meaning.{statements_run, taken};
-ghost use Rattle.transform_proc.specs.Turns.{turn_of};
+ghost use Rattle.transform_proc.specs.Turns.{StopsWork, turn_of};
 
 use conf_json::{ErrorMode, Group, NoteBook, Part, PlainStop};
 use ottl_eval::{Cache, KeptMatchers, Outcome, run_statement_with};
 use ottl_plan::{PlannedCondition, PlannedStatement};
 use pdata_tree::{Batch, Place, PlainScene, Scene};
-use proc_targets::{Spot, any_holds, meet};
+use proc_targets::{Spot, any_holds, any_holds_whole, meet};
 use std::alloc::Global;
 
 /// A group, with its number and the error mode.
@@ -26,8 +26,8 @@ pub(crate) struct Turn<'p> {
 }
 
 impl Turn<'_> {
-    // Where the group's conditions or statements stand on a target.
-    fn spot(&self, part: Part, place: Place) -> Spot
+    /// Where the group's conditions or statements stand on a target.
+    pub(crate) fn spot(&self, part: Part, place: Place) -> Spot
         ensures { result ≡ spec.spot_of (turn_of self.now) part place }
     {
         Spot {
@@ -110,6 +110,27 @@ fn takes<'p, S: Scene>(
     }
 }
 
+/// Whether a target is taken, as `takes` says; where it is stopped, the account is as before.
+pub(crate) fn takes_whole<'p, S: Scene>(
+    alloc: Global,
+    scene: &S,
+    matchers: &mut KeptMatchers<'p>,
+    conditions: &'p [PlannedCondition],
+    spot: &Spot,
+    book: &mut NoteBook,
+) -> Result<bool, PlainStop>
+    requires { S.stands scene.now }
+    ensures value { Ends book.new result (taken log_trees spot.now conditions.now
+        (stage (S.tree scene.now) (S.kind scene.now) (S.place scene.now) no_pairs) book.old) }
+    ensures failed { FailsUnder spot.now.mode result }
+    ensures back { OnErr result (book.new ≡ book.old) }
+{
+    match conditions {
+        [] => Ok(true),
+        [_, ..] => any_holds_whole(alloc, scene, matchers, conditions, spot, book),
+    }
+}
+
 // Runs statements in order, from the empty cache.
 #[tactic(auto, using(proc_targets::proofs::Stops::stops))]
 fn run_statements<'p, S: Scene>(
@@ -137,8 +158,8 @@ fn run_statements<'p, S: Scene>(
     Ok(())
 }
 
-// Runs the statement with this number.
-fn run_one<'p, S: Scene>(
+/// Runs the statement with this number. Where it is stopped all is as before.
+pub(crate) fn run_one<'p, S: Scene>(
     alloc: Global,
     scene: &mut S,
     cache: &mut Cache,
@@ -156,6 +177,9 @@ fn run_one<'p, S: Scene>(
     ensures keeps { S.keeps scene.old scene.new }
     ensures stays { Stays spot.now.mode book.old book.new }
     ensures failed { FailsUnder spot.now.mode result }
+    ensures back { OnErr result (stage (S.tree scene.new) (S.kind scene.new) (S.place scene.new) cache.new
+        ≡ stage (S.tree scene.old) (S.kind scene.old) (S.place scene.old) cache.old) }
+    ensures book { OnErr result (book.new ≡ book.old) }
 {
     let outcome = run_statement_with(alloc, scene, cache, matchers, statement);
     meet_outcome(book, spot, index, outcome)
@@ -172,6 +196,8 @@ fn meet_outcome(
     ensures stays { Stays spot.now.mode book.old book.new }
     ensures failed { FailsUnder spot.now.mode result }
     ensures memory { OnOk result (outcome ≢ Outcome.NoMemory) }
+    ensures errs { OnErr result (StopsWork outcome) }
+    ensures book { OnErr result (book.new ≡ book.old) }
 {
     match outcome {
         Outcome::Done | Outcome::Skipped => Ok(()),

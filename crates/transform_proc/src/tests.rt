@@ -3,4 +3,5 @@
 
 mod groups;
 mod modes;
+mod rooted;
 mod runs;

@@ -34,6 +34,19 @@ fn the_first_eight_errors_are_noted(rt: HostRuntime) -> Result<(), Fail> {
 }
 
 #[test]
+fn a_copy_is_a_book_of_its_own(rt: HostRuntime) -> Result<(), Fail> {
+    let mut book = NoteBook::new();
+    book.put(note(0));
+    let mut copy = book.copy();
+    copy.put(note(1));
+    assert_eq!(rt; copy.count(), 2);
+    assert_eq!(rt; copy.notes().len(), 2);
+    assert_eq!(rt; copy.notes().first(), book.notes().first());
+    assert_eq!(rt; book.count(), 1);
+    Ok(())
+}
+
+#[test]
 fn modes_say_whether_the_work_goes_on(rt: HostRuntime) -> Result<(), Fail> {
     for (mode, goes_on, count) in [
         (ErrorMode::Ignore, true, 1),

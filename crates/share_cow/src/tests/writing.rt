@@ -40,7 +40,7 @@ fn text(alloc: Global) -> Result<Value, AllocError> {
     Ok(Value::Text(Text::from_str(alloc, "WARN")?))
 }
 
-fn text_made(
+pub(super) fn text_made(
     forest: &mut Forest,
     root: &Root,
     log: u32,
@@ -69,7 +69,7 @@ fn a_shared_way_is_made_once(rt: HostRuntime) -> Result<(), Fail> {
     Ok(())
 }
 
-fn shares(forest: &mut Forest, root: &Root) -> Option<Root> {
+pub(super) fn shares(forest: &mut Forest, root: &Root) -> Option<Root> {
     if forest.spare() == 0 || !forest.holds(root) {
         return None;
     }

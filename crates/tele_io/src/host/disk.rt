@@ -1,6 +1,6 @@
 //! The system's files as a disk.
 
-ghost use Rattle.std.specs.Prelude.{◌≡◌, ◌+◌, ◌<◌, ◌≤◌, ◌^◌, IfOk, length};
+ghost use Rattle.std.specs.Prelude.{◌≡◌, ◌+◌, ◌<◌, ◌≤◌, ◌^◌, IfOk, IfSome, length};
 
 use crate::disk::{Disk, DiskFault};
 use crate::host::tries::{read_some, write_some};
@@ -16,7 +16,10 @@ struct Opened<F> {
     file: F,
 }
 
-/// Keeps the file that was read last and the file that was written last open between calls.
+/// How many files are kept open to be written.
+const MOST_OPEN: usize = 32;
+
+/// Keeps the file that was read last and the files that were written last open between calls.
 #[derive(Drop)]
 pub struct HostDisk<R: Files> {
     files: R,
@@ -24,7 +27,7 @@ pub struct HostDisk<R: Files> {
     reading: Option<Opened<R::File>>,
     // The place in it that is read next.
     place: u64,
-    writing: Option<Opened<R::File>>,
+    writing: Vec<Opened<R::File>>,
     read_faults: u64,
     write_faults: u64,
 }
@@ -48,6 +51,18 @@ fn with_name<F: Drop>(alloc: Global, name: &str, file: F) -> io::Result<Opened<F
     Ok(Opened { name, file })
 }
 
+// Where the file with this name stands.
+fn place_of<F>(opened: &[Opened<F>], name: &str) -> Option<usize>
+    ensures { IfSome result (λ at. at < length opened.now) }
+{
+    for at in 0..opened.len() {
+        if opened[at].name.as_str() == name {
+            return Some(at);
+        }
+    }
+    None
+}
+
 impl<R: Files> HostDisk<R> {
     pub fn new(alloc: Global, files: R) -> HostDisk<R> {
         HostDisk {
@@ -55,7 +70,7 @@ impl<R: Files> HostDisk<R> {
             alloc,
             reading: None,
             place: 0,
-            writing: None,
+            writing: Vec::new(alloc),
             read_faults: 0,
             write_faults: 0,
         }
@@ -85,26 +100,47 @@ impl<R: Files> HostDisk<R> {
         Ok(count)
     }
 
-    // A file that was there holds no bytes afterwards. After an error none is open to be written.
+    // The file that is open to be written under this name, which is handed out.
+    fn take_open(&mut self, name: &str) -> Option<Opened<R::File>>
+        ensures reads { self.new.read_faults ≡ self.old.read_faults }
+        ensures writes { self.new.write_faults ≡ self.old.write_faults }
+    {
+        let at = place_of(self.writing.as_slice(), name)?;
+        Some(self.writing.remove(at))
+    }
+
+    // Keeps a file open to be written; where there are many, the one of old goes.
+    fn keep_open(&mut self, opened: Opened<R::File>) -> io::Result<()>
+        ensures reads { self.new.read_faults ≡ self.old.read_faults }
+        ensures writes { self.new.write_faults ≡ self.old.write_faults }
+    {
+        if self.writing.len() >= MOST_OPEN {
+            drop(self.writing.remove(0));
+        }
+        self.writing.push(opened)?;
+        Ok(())
+    }
+
+    // A file that was there holds no bytes afterwards. After an error none is open to be written
+    // under this name.
     fn create_anew(&mut self, name: &str) -> io::Result<()>
         ensures reads { self.new.read_faults ≡ self.old.read_faults }
         ensures writes { self.new.write_faults ≡ self.old.write_faults }
     {
-        self.writing = None;
+        drop(self.take_open(name));
         let file = fs::create(&self.files, name)?;
-        self.writing = Some(with_name(self.alloc, name, file)?);
-        Ok(())
+        self.keep_open(with_name(self.alloc, name, file)?)
     }
 
     // Writes on to the file that is open under this name, or to one that is opened here; after an
-    // error none is open.
+    // error none is open under this name.
     fn append_to(&mut self, name: &str, piece: &[u8]) -> io::Result<usize>
         ensures count { IfOk result (λ n. n ≤ length piece.now) }
         ensures some { IfOk result (λ n. 0 < length piece.now → 0 < n) }
         ensures reads { self.new.read_faults ≡ self.old.read_faults }
         ensures writes { self.new.write_faults ≡ self.old.write_faults }
     {
-        let mut opened = match if_named(self.writing.take(), name) {
+        let mut opened = match self.take_open(name) {
             Some(opened) => opened,
             None => {
                 let file = OpenOptions::new().append(true).open(&self.files, name)?;
@@ -112,7 +148,7 @@ impl<R: Files> HostDisk<R> {
             }
         };
         let count = write_some(&mut opened.file, piece)?;
-        self.writing = Some(opened);
+        self.keep_open(opened)?;
         Ok(count)
     }
 }

@@ -45,8 +45,8 @@ fn scope(alloc: Global, count: usize) -> Result<ScopeTree, Fail> {
     Ok(ScopeTree { node, logs })
 }
 
-// A tree with one scope of so many log records.
-fn tree(alloc: Global, count: usize) -> Result<Batch, Fail> {
+/// A tree with one scope of so many log records.
+pub(crate) fn tree(alloc: Global, count: usize) -> Result<Batch, Fail> {
     let node = ResourceNode {
         attributes: Pairs::new(alloc),
         dropped: 0,
@@ -140,7 +140,8 @@ fn log_text(alloc: Global, log: &LogRecord) -> Result<String, AllocError> {
     Ok(text)
 }
 
-fn tree_text(alloc: Global, tree: &Batch) -> Result<String, AllocError> {
+/// The attributes of all log records, but for `d`.
+pub(crate) fn tree_text(alloc: Global, tree: &Batch) -> Result<String, AllocError> {
     let mut text = String::new(alloc);
     for resource in tree.resources.as_slice() {
         for scope in resource.scopes.as_slice() {

@@ -1,5 +1,6 @@
 use Rattle.std.proofs.Common.{refl, arith}
-use Rattle.share_cow.proofs.Plant.{plant_others, plant_sound, plant_tree, plant_unshared, resource_nodes, stays, still_sound}
+use Rattle.share_cow.proofs.Comes.{come_others, come_own, come_shared, come_sound, come_tree}
+use Rattle.share_cow.proofs.Plant.{plant_comes, resource_nodes, stays, still_sound}
 use Rattle.share_cow.proofs.forest.Forest.plant.Goals as goal
 
 pub invariant_of-self : goal.invariant_of-self
@@ -8,28 +9,38 @@ invariant_of-self c =
     let put = c.insert_reserved.ensures in
     let room = rw (← c.self.view_is) at c.requires in (
       omega (arith, c.self.invariant.0, put.capacity),
-      plant_sound _ _ c.insert_reserved.result c.in-Ok.place c.args.batch c.self.invariant.1 put.was_vacant put.updates.changed put.updates.others planted.ok
-          planted.batches.kept planted.resources.kept planted.scopes.kept planted.logs.kept (omega (arith, put.len, room)) c.self.invariant.1.most,
+      come_sound _ c.insert_reserved.result c.in-Ok.place c.args.batch _ c.plant_batch.new.batches c.plant_batch.new.resources c.plant_batch.new.scopes c.plant_batch.new.logs c.self.invariant.1
+          (plant_comes _ c.insert_reserved.result c.in-Ok.place c.args.batch c.self.invariant.1 _ _ _ _ c.in-Ok.ensures.ok)
+          c.insert_reserved.result c.insert_reserved.new.self.slots put.was_vacant put.updates.changed put.updates.others
+          planted.batches.kept planted.resources.kept planted.scopes.kept planted.logs.kept (omega (arith, put.len, room)),
     )
 
 pub returns-in-Ok-clause-tree : goal.returns-in-Ok-clause-tree
 returns-in-Ok-clause-tree c =
     let put = c.insert_reserved.ensures in
-    rw c.new.ensures (plant_tree (record { roots = c.insert_reserved.new.self.slots; most = c.self.inside.most; batches = c.plant_batch.new.batches; resources = c.plant_batch.new.resources; scopes = c.plant_batch.new.scopes; logs = c.plant_batch.new.logs })
-    c.insert_reserved.result c.in-Ok.place c.args.batch put.updates.changed c.in-Ok.ensures.ok.values)
+    rw c.new.ensures (come_tree _ c.insert_reserved.result c.in-Ok.place c.args.batch _ c.plant_batch.new.batches c.plant_batch.new.resources c.plant_batch.new.scopes c.plant_batch.new.logs c.self.invariant.1
+    (plant_comes _ c.insert_reserved.result c.in-Ok.place c.args.batch c.self.invariant.1 _ _ _ _ c.in-Ok.ensures.ok)
+    c.insert_reserved.result c.insert_reserved.new.self.slots put.was_vacant put.updates.changed put.updates.others)
 
 pub returns-in-Ok-clause-others : goal.returns-in-Ok-clause-others
 returns-in-Ok-clause-others c =
     let put = c.insert_reserved.ensures in
-    rw (c.new.ensures, ← c.self.view_is)
-    (plant_others _ _ c.insert_reserved.result c.in-Ok.place c.args.batch c.self.invariant.1 put.was_vacant put.updates.changed put.updates.others c.in-Ok.ensures.ok)
+    rw (c.new.ensures, ← c.self.view_is) (record {
+      trees = come_others _ c.insert_reserved.result c.in-Ok.place c.args.batch _ c.plant_batch.new.batches c.plant_batch.new.resources c.plant_batch.new.scopes c.plant_batch.new.logs c.self.invariant.1
+          (plant_comes _ c.insert_reserved.result c.in-Ok.place c.args.batch c.self.invariant.1 _ _ _ _ c.in-Ok.ensures.ok)
+          c.insert_reserved.result c.insert_reserved.new.self.slots put.was_vacant put.updates.changed put.updates.others;
+      shared = λ other d. come_shared _ c.insert_reserved.result c.in-Ok.place c.args.batch _ c.plant_batch.new.batches c.plant_batch.new.resources c.plant_batch.new.scopes c.plant_batch.new.logs c.self.invariant.1
+          (plant_comes _ c.insert_reserved.result c.in-Ok.place c.args.batch c.self.invariant.1 _ _ _ _ c.in-Ok.ensures.ok)
+          c.insert_reserved.result c.insert_reserved.new.self.slots put.was_vacant put.updates.changed put.updates.others other d d;
+    })
 
 pub returns-in-Ok-clause-unshared : goal.returns-in-Ok-clause-unshared
 returns-in-Ok-clause-unshared c =
     let put = c.insert_reserved.ensures in
-    rw c.new.ensures
-    (plant_unshared _ (record { roots = c.insert_reserved.new.self.slots; most = c.self.inside.most; batches = c.plant_batch.new.batches; resources = c.plant_batch.new.resources; scopes = c.plant_batch.new.scopes; logs = c.plant_batch.new.logs })
-    c.insert_reserved.result c.in-Ok.place c.args.batch c.self.invariant.1 put.was_vacant put.updates.changed put.updates.others c.in-Ok.ensures.ok)
+    let own = come_own _ c.insert_reserved.result c.in-Ok.place c.args.batch _ c.plant_batch.new.batches c.plant_batch.new.resources c.plant_batch.new.scopes c.plant_batch.new.logs c.self.invariant.1
+    (plant_comes _ c.insert_reserved.result c.in-Ok.place c.args.batch c.self.invariant.1 _ _ _ _ c.in-Ok.ensures.ok)
+    c.insert_reserved.result c.insert_reserved.new.self.slots put.was_vacant put.updates.changed put.updates.others in
+    rw c.new.ensures (omega (arith, own))
 
 pub returns-in-Ok-clause-made : goal.returns-in-Ok-clause-made
 returns-in-Ok-clause-made c =

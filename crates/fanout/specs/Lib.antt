@@ -1,0 +1,2 @@
+-- What the takers of a tree hold.
+pub mod Handing

@@ -1,0 +1,6 @@
+use Rattle.otlp_json.specs.Fields.{bytes_in}
+use Rattle.otlp_json.proofs.Filling.{json-stands}
+use Rattle.otlp_json.proofs.direct.fields.bytes.Goals as goal
+
+pub returns-clause-stands : goal.returns-clause-stands
+returns-clause-stands c = json-stands bytes_in c.args.depth c.args.direct.now c.json.new.direct c.in_ok-json.json _ c.in_ok-json.ensures.next c.in_ok-bytes_of.ensures
