@@ -87,7 +87,7 @@ fn is_dropped<'p>(
 }
 
 // Where the conditions stand on a log record.
-fn spot_of(settings: &FilterSettings, place: Place) -> Spot
+pub(crate) fn spot_of(settings: &FilterSettings, place: Place) -> Spot
     ensures { result ≡ spec.spot_of settings.now place }
 {
     Spot {

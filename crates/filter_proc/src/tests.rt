@@ -1,5 +1,7 @@
 //! Conditions, from their texts, on log records with a text as their body.
 
+mod rooted;
+
 use crate::apply_plain;
 use conf_json::{ErrorMode, FilterSettings, Note, NoteBook, PlainStop};
 use func_text::RegexMaker;
@@ -81,6 +83,21 @@ fn planned(alloc: Global, text: &str) -> Result<PlannedCondition, Fail> {
     }
 }
 
+fn settings(
+    alloc: Global,
+    error_mode: ErrorMode,
+    conditions: &[&str],
+) -> Result<FilterSettings, Fail> {
+    let mut log_record = ItemList::new(alloc);
+    for text in conditions {
+        log_record.push(planned(alloc, text)?)?;
+    }
+    Ok(FilterSettings {
+        error_mode,
+        log_record,
+    })
+}
+
 // The bodies of a tree: a resource in parentheses, a scope in brackets.
 fn tree_text(alloc: Global, tree: &Batch) -> Result<String, AllocError> {
     let mut text = String::new(alloc);
@@ -139,14 +156,7 @@ fn run(
     first: &[&str],
     second: &[&str],
 ) -> Result<String, Fail> {
-    let mut log_record = ItemList::new(alloc);
-    for text in conditions {
-        log_record.push(planned(alloc, text)?)?;
-    }
-    let settings = FilterSettings {
-        error_mode,
-        log_record,
-    };
+    let settings = settings(alloc, error_mode, conditions)?;
     let mut book = NoteBook::new();
     let mut matchers = KeptMatchers::new(alloc);
     let tree = tree(alloc, first, second)?;
