@@ -1,12 +1,12 @@
 -- A text that is spelled is read.
-use Rattle.std.proofs.Common.{◌≡◌, ◌∙◌, ℕ, zero, suc, ◌+◌, ◌*◌, ◌≤◌, ◌<◌, Bool, true, false, List, [], ◌∷◌, ◌++◌, length, Option, Some, None, Result, Ok, Err, refl, sym, ap, subst, arith, cond, append_assoc, length-append}
-use Rattle.std.specs.Prelude.{◌==◌, ◌&&◌, nat_lt, nat_le, IsTrue}
+use Rattle.std.proofs.Common.{◌≡◌, ◌∙◌, ℕ, zero, suc, ◌+◌, ◌*◌, ◌≤◌, ◌<◌, Bool, true, false, List, [], ◌∷◌, ◌++◌, length, Option, Some, None, Result, Ok, Err, refl, ap, arith, cond, append_assoc, length-append}
+use Rattle.std.specs.Prelude.{◌==◌, ◌&&◌, nat_lt, nat_le}
 use Rattle.std.specs.Char.{digit_value, encode_utf8}
 use Rattle.std.specs.Char.Utf16.{is_high_surrogate, is_low_surrogate, lone_unit_char, surrogate_pair_char}
 use Rattle.std.specs.Int.{is_in_range}
 use Rattle.std.proofs.lemmas.Bool.Decides.{nat_tests}
-use Rattle.json_text.specs.Place.{Rest, head, past}
-use Rattle.json_text.specs.Reading.{Reads, ◌>>=◌, with_front, one_of, this, hex, two_more, low_half, from_d, unit, is_short, short, escape, is_plain, piece, text, quoted}
+use Rattle.json_text.specs.Place.{Rest}
+use Rattle.json_text.specs.Reading.{Reads, ◌>>=◌, with_front, this, hex, two_more, low_half, from_d, unit, is_short, short, escape, is_plain, piece, text, quoted}
 use Rattle.json_text.specs.Spelling as spelling
 use Rattle.json_text.specs.Spelling.{ShortEscape, IsHex, SpellsUnit, SpellsEscape, SpellsPiece, SpellsPieces, SpellsText}
 use Rattle.json_text.specs.declared.error.JsonFault.{JsonFault}

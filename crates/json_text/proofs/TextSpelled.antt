@@ -1,17 +1,15 @@
 -- A text that is read is spelled.
-use Rattle.std.proofs.Common.{◌≡◌, ◌∙◌, ℕ, zero, suc, ◌+◌, ◌*◌, ◌≤◌, ◌<◌, Bool, true, false, List, [], ◌∷◌, ◌++◌, length, drop, get_or, Some, Result, Ok, Err, ◌⊎◌, inl, inr, refl, sym, ap, subst, arith, cond, append_assoc, length-append}
+use Rattle.std.proofs.Common.{◌≡◌, ◌∙◌, ℕ, zero, suc, ◌+◌, ◌*◌, ◌≤◌, ◌<◌, Bool, true, false, List, [], ◌∷◌, ◌++◌, length, drop, get_or, Some, Ok, ◌⊎◌, inl, inr, refl, sym, ap, subst, arith, append_assoc, length-append}
 use Rattle.std.specs.Prelude.{◌==◌, ◌&&◌, nat_lt, nat_le, IsTrue}
 use Rattle.std.specs.Char.{digit_value, encode_utf8}
 use Rattle.std.specs.Char.Utf16.{is_high_surrogate, is_low_surrogate, lone_unit_char, surrogate_pair_char}
 use Rattle.std.specs.Int.{is_in_range}
 use Rattle.std.proofs.lemmas.Bool.Decides.{nat_tests}
 use Rattle.json_text.specs.Place.{Rest, head, past}
-use Rattle.json_text.specs.Reading.{Reads, ◌>>=◌, with_front, one_of, this, hex, two_more, low_half, from_d, unit, is_short, short, escape, is_plain, piece, text, quoted}
+use Rattle.json_text.specs.Reading.{Reads, ◌>>=◌, one_of, this, hex, two_more, low_half, from_d, unit, is_short, short, escape, is_plain, piece, text, quoted}
 use Rattle.json_text.specs.Spelling as spelling
 use Rattle.json_text.specs.Spelling.{ShortEscape, IsHex, SpellsUnit, SpellsEscape, SpellsPiece, SpellsPieces, SpellsText}
-use Rattle.json_text.specs.declared.error.JsonFault.{JsonFault}
 use Rattle.json_text.proofs.Numerals.{bind_ok, by_test, ok_same}
-use Rattle.json_text.proofs.Turns.{cond-false}
 use Rattle.json_text.proofs.TextBack.{rest_at}
 
 -- A reading went from one place to another, over a word of which P holds.
@@ -83,7 +81,11 @@ two_took front r p is =
     subst (λ (q : ℕ × Rest). Took (Two front q.0) r q.1) (ok_same _ _ b.2)
     (took_then (Digit 0 15 a.0.0) (Digit 0 15 b.0.0) (Two front (front * 256 + a.0.0 * 16 + b.0.0)) r a.0.1 b.0.1 (hex_took 0 15 refl r a.0 a.1) (hex_took 0 15 refl a.0.1 b.0 b.1)
     (λ x y place c d. (
-      c.0, d.0, ap (λ (z : List ℕ). z ++ y) c.1 ∙ ap (λ (z : List ℕ). c.0 ∷ z) d.1, hex_less (digit_value c.0) c.3, hex_less (digit_value d.0) d.3,
+      c.0,
+      d.0,
+      ap (λ (z : List ℕ). z ++ y) c.1 ∙ ap (λ (z : List ℕ). c.0 ∷ z) d.1,
+      hex_less (digit_value c.0) c.3,
+      hex_less (digit_value d.0) d.3,
       ap (λ (n : ℕ). front * 256 + n * 16 + b.0.0) c.2 ∙ ap (λ (n : ℕ). front * 256 + digit_value c.0 * 16 + n) d.2,
     )))
 
@@ -158,7 +160,7 @@ spells_unit : (low high front digit value a : ℕ) (word : List ℕ) → high < 
     → value ≡ digit_value a * 4096 + digit * 256 + digit_value t.c * 16 + digit_value t.d → SpellsUnit (92 ∷ 117 ∷ a ∷ word) value
 spells_unit low high front digit value a word most hex_a t sum =
     let value_is : digit_value a * 4096 + digit_value t.b * 256 + digit_value t.c * 16 + digit_value t.d ≡ value =
-        sym (sum ∙ ap (λ (n : ℕ). digit_value a * 4096 + n * 256 + digit_value t.c * 16 + digit_value t.d) t.first) in
+    sym (sum ∙ ap (λ (n : ℕ). digit_value a * 4096 + n * 256 + digit_value t.c * 16 + digit_value t.d) t.first) in
     let hex_b : IsHex t.b = subst (λ (n : ℕ). n < 16) t.first (within_hex low high digit most t.within) in
     subst (λ (w : List ℕ). SpellsUnit (92 ∷ 117 ∷ a ∷ w) value) (sym t.is)
     (subst (SpellsUnit (92 ∷ 117 ∷ a ∷ t.b ∷ t.c ∷ t.d ∷ [])) value_is (spelling.unit a t.b t.c t.d hex_a hex_b t.hex_c t.hex_d))
@@ -173,23 +175,29 @@ is_d v h = grind (arith, nat_tests)
 abbrev Low : ℕ → List ℕ → Type 0
 Low low word = SpellsUnit word low × IsTrue (is_low_surrogate low)
 
+abbrev joined : ℕ → ℕ × Rest → Reads ℕ
+joined high low = Ok (surrogate_pair_char high low.0, low.1)
+
+abbrev low_digits : ℕ → ℕ × Rest → Reads ℕ
+low_digits high b = two_more (208 + b.0) b.1 >>= joined high
+
 low_took : (high : ℕ) (r : Rest) (p : ℕ × Rest) → low_half high r ≡ Ok p → Took (LowHalf high p.0) r p.1
 unfolding low_half
 low_took high r p is =
-    let d = bind_ok (this 92 r >>= this 117 >>= hex 13 13) _ p is in
+    let d = bind_ok (this 92 r >>= this 117 >>= hex 13 13) (λ a. hex 12 15 a.1 >>= low_digits high) p is in
     let u = bind_ok (this 92 r >>= this 117) (hex 13 13) d.0 d.1 in
     let s = bind_ok (this 92 r) (this 117) u.0 u.1 in
-    let b = bind_ok (hex 12 15 d.0.1) _ p d.2 in
-    let low = bind_ok (two_more (208 + b.0.0) b.0.1) _ p b.2 in
+    let b = bind_ok (hex 12 15 d.0.1) (low_digits high) p d.2 in
+    let low = bind_ok (two_more (208 + b.0.0) b.0.1) (joined high) p b.2 in
     let same : (surrogate_pair_char high low.0.0, low.0.1) ≡ p = ok_same _ _ low.2 in
     let three = three_took 12 15 208 refl d.0.1 b.0 low.0 b.1 low.1 in
     let digits = took_then (Digit 13 13 d.0.0) (Three 12 15 208 b.0.0 low.0.0) (λ w. Low low.0.0 (92 ∷ 117 ∷ w)) u.0 d.0.1 low.0.1 (hex_took 13 13 refl u.0 d.0 u.2) three
-        (λ x y place c t. (
-          subst (λ (w : List ℕ). SpellsUnit (92 ∷ 117 ∷ (w ++ y)) low.0.0) (sym c.1) (spells_d 12 15 b.0.0 low.0.0 c.0 y (omega arith) (is_d (digit_value c.0) c.3) t),
-          subst (λ (n : ℕ). is_low_surrogate n ≡ true) (sym t.valued) (low_unit b.0.0 (digit_value t.c) (digit_value t.d) t.within t.hex_c t.hex_d),
-        )) in
+    (λ x y place c t. (
+      subst (λ (w : List ℕ). SpellsUnit (92 ∷ 117 ∷ (w ++ y)) low.0.0) (sym c.1) (spells_d 12 15 b.0.0 low.0.0 c.0 y (omega arith) (is_d (digit_value c.0) c.3) t),
+      subst (λ (n : ℕ). is_low_surrogate n ≡ true) (sym t.valued) (low_unit b.0.0 (digit_value t.c) (digit_value t.d) t.within t.hex_c t.hex_d),
+    )) in
     let letter = took_then (Just (117 ∷ [])) (λ w. Low low.0.0 (92 ∷ 117 ∷ w)) (λ w. Low low.0.0 (92 ∷ w)) s.0 u.0 low.0.1 (this_took 117 refl s.0 u.0 s.2) digits
-        (λ x y place e q. (subst (λ (w : List ℕ). SpellsUnit (92 ∷ (w ++ y)) low.0.0) (sym e) q.0, q.1)) in
+    (λ x y place e q. (subst (λ (w : List ℕ). SpellsUnit (92 ∷ (w ++ y)) low.0.0) (sym e) q.0, q.1)) in
     subst (λ (q : ℕ × Rest). Took (LowHalf high q.0) r q.1) same
     (took_then (Just (92 ∷ [])) (λ w. Low low.0.0 (92 ∷ w)) (LowHalf high (surrogate_pair_char high low.0.0)) r s.0 low.0.1 (this_took 92 refl r s.0 s.1) letter
     (λ x y place e q. (low.0.0, subst (λ (w : List ℕ). SpellsUnit (w ++ y) low.0.0) (sym e) q.0, q.1, refl)))
@@ -240,7 +248,7 @@ unit_took r p is =
           let in_a : is_in_range 0 15 a.0.0 ≡ true = subst (λ (n : ℕ). is_in_range 0 15 n ≡ true) (sym e.2) e.3 in
           let none : is_surrogate p.0 ≡ false = subst (λ (n : ℕ). is_surrogate n ≡ false) (sym t.valued) (other_unit a.0.0 b.0.0 (digit_value t.c) (digit_value t.d) in_a other.0 t.within t.hex_c t.hex_d) in
           let value : p.0 ≡ digit_value e.0 * 4096 + b.0.0 * 256 + digit_value t.c * 16 + digit_value t.d =
-              t.valued ∙ unit_of a.0.0 b.0.0 (digit_value t.c) (digit_value t.d) ∙ ap (λ (n : ℕ). n * 4096 + b.0.0 * 256 + digit_value t.c * 16 + digit_value t.d) e.2 in
+          t.valued ∙ unit_of a.0.0 b.0.0 (digit_value t.c) (digit_value t.d) ∙ ap (λ (n : ℕ). n * 4096 + b.0.0 * 256 + digit_value t.c * 16 + digit_value t.d) e.2 in
           subst (λ (w : List ℕ). Behind_u p.0 (w ++ y)) (sym e.1)
           (spelling.lone (92 ∷ 117 ∷ e.0 ∷ y) p.0 p.0 (spells_unit 0 15 (a.0.0 * 16) b.0.0 p.0 e.0 y (omega arith) (hex_less (digit_value e.0) e.3) t value) (lone_is p.0 none)))
     ]
@@ -258,13 +266,31 @@ no_letter b h q s o c f n r = grind (arith, nat_tests)
 
 short_spelled : (b : ℕ) → is_short b ≡ true → ShortEscape b (short b)
 short_spelled b is =
-    elim (either (b == 34)) [ inl e ↦ by_letter b 34 e spelling.quote | inr q ↦
-    elim (either (b == 92)) [ inl e ↦ by_letter b 92 e spelling.backslash | inr s ↦
-    elim (either (b == 47)) [ inl e ↦ by_letter b 47 e spelling.solidus | inr o ↦
-    elim (either (b == 98)) [ inl e ↦ by_letter b 98 e spelling.backspace | inr c ↦
-    elim (either (b == 102)) [ inl e ↦ by_letter b 102 e spelling.form_feed | inr f ↦
-    elim (either (b == 110)) [ inl e ↦ by_letter b 110 e spelling.line_feed | inr n ↦
-    elim (either (b == 114)) [ inl e ↦ by_letter b 114 e spelling.carriage_return | inr r ↦ by_letter b 116 (no_letter b is q s o c f n r) spelling.tab ] ] ] ] ] ] ]
+    elim (either (b == 34)) [
+      | inl e ↦ by_letter b 34 e spelling.quote
+      | inr q ↦
+          elim (either (b == 92)) [
+            | inl e ↦ by_letter b 92 e spelling.backslash
+            | inr s ↦
+                elim (either (b == 47)) [
+                  | inl e ↦ by_letter b 47 e spelling.solidus
+                  | inr o ↦
+                      elim (either (b == 98)) [
+                        | inl e ↦ by_letter b 98 e spelling.backspace
+                        | inr c ↦
+                            elim (either (b == 102)) [
+                              | inl e ↦ by_letter b 102 e spelling.form_feed
+                              | inr f ↦
+                                  elim (either (b == 110)) [
+                                    | inl e ↦ by_letter b 110 e spelling.line_feed
+                                    | inr n ↦
+                                        elim (either (b == 114)) [ inl e ↦ by_letter b 114 e spelling.carriage_return | inr r ↦ by_letter b 116 (no_letter b is q s o c f n r) spelling.tab ]
+                                  ]
+                            ]
+                      ]
+                ]
+          ]
+    ]
 
 abbrev Behind_slash : ℕ → List ℕ → Type 0
 Behind_slash character word = SpellsEscape (92 ∷ word) character

@@ -1,6 +1,6 @@
 -- A value that is spelled is read.
-use Rattle.std.proofs.Common.{◌≡◌, ◌∙◌, ℕ, zero, suc, ◌+◌, ◌<◌, Bool, true, false, List, [], ◌∷◌, ◌++◌, length, drop, Result, Ok, Err, ◌⊎◌, inl, inr, refl, sym, ap, subst, arith, cond, append_assoc, length-append}
-use Rattle.std.specs.Prelude.{◌==◌, ◌&&◌, ◌||◌, codes, slice_index, IsTrue}
+use Rattle.std.proofs.Common.{◌≡◌, ◌∙◌, ℕ, zero, suc, ◌+◌, ◌<◌, Bool, true, false, List, [], ◌∷◌, ◌++◌, length, drop, Ok, inl, inr, refl, sym, ap, subst, arith, cond, append_assoc, length-append}
+use Rattle.std.specs.Prelude.{◌==◌, ◌&&◌, codes, slice_index}
 use Rattle.std.specs.List.{prefix_len, list_all, list_any}
 use Rattle.std.specs.Str.{IsUtf8}
 use Rattle.std.proofs.lemmas.Bool.Decides.{nat_tests}
@@ -10,13 +10,12 @@ use Rattle.contract_words.specs.Grammar.{first}
 use Rattle.contract_words.proofs.Predictive.{nullable_of}
 use Rattle.pdata_value.specs.Numeral.{numeral, IsNumeral}
 use Rattle.json_text.specs.Place.{Rest, head, past, is_blank, blanks}
-use Rattle.json_text.specs.Reading.{Reads, ◌>>=◌, with_front, this, number, quoted, comma_or, more, elements, sequence, member, make, scalar, value, ended, document, json_text}
+use Rattle.json_text.specs.Reading.{Reads, ◌>>=◌, with_front, this, quoted, comma_or, more, elements, sequence, member, scalar, value, ended, document, json_text}
 use Rattle.json_text.specs.Spelling as spelling
 use Rattle.json_text.specs.Spelling.{Spelling, SpellsText, IsBlank, Padded, SpellsMore, SpellsAll, SpellsMember, SpellsScalar, SpellsContainer, SpellsValue, SpellsJson}
 use Rattle.json_text.specs.declared.json.Json.{Json}
 use Rattle.json_text.specs.declared.json.JsonKind.{JsonKind}
 use Rattle.json_text.specs.declared.json.JsonKind.TheVariants as kinds
-use Rattle.json_text.specs.declared.error.JsonFault.{JsonFault}
 use Rattle.json_text.proofs.Turns.{cond-true, cond-false, elements-goes, elements-end}
 use Rattle.json_text.proofs.Values.{value-scalar, same_length}
 use Rattle.json_text.proofs.Fitting.{opening}
@@ -136,20 +135,20 @@ module _ {X : Type 0} (spell : Spelling X) (one : Rest → Reads X)
       let next : ℕ = at + length word + length after + 1 in
       let left : List ℕ = left_of p.word p.after behind rest in
       let back_is : tail back rest ≡ 44 ∷ (p.before ++ left) =
-          ap (λ (z : List ℕ). z ++ close ∷ rest) others.2 ∙ ap (λ (z : List ℕ). 44 ∷ ((z ++ behind) ++ close ∷ rest)) p.whole ∙ ap (λ (z : List ℕ). 44 ∷ z) (padded_left p.before p.word p.after behind rest) in
+      ap (λ (z : List ℕ). z ++ close ∷ rest) others.2 ∙ ap (λ (z : List ℕ). 44 ∷ ((z ++ behind) ++ close ∷ rest)) p.whole ∙ ap (λ (z : List ℕ). 44 ∷ z) (padded_left p.before p.word p.after behind rest) in
       let here : Rest = rest_at at (word ++ (after ++ 44 ∷ (p.before ++ left))) in
       let mid : Rest = rest_at (at + length word) (after ++ 44 ∷ (p.before ++ left)) in
       let then : Rest = rest_at (next + length p.before) left in
       let opens : Begins p.word = begins (next + length p.before) p.word y p.spelled in
       let stops : Stopped (after ++ 44 ∷ (p.before ++ left)) = blank_stops after (44 ∷ (p.before ++ left)) blank (stopped 44 (p.before ++ left) refl) in
       let comma : comma_or close (blanks mid) ≡ Ok (true, then) =
-          comma_read after (at + length word) (p.before ++ left) blank
-          ∙ ap (λ (r : Rest). Ok (true, r)) (blanks_read p.before next left p.blank_before (begins_solid p.word (p.after ++ tail behind rest) opens)) in
+      comma_read after (at + length word) (p.before ++ left) blank
+      ∙ ap (λ (r : Rest). Ok (true, r)) (blanks_read p.before next left p.blank_before (begins_solid p.word (p.after ++ tail behind rest) opens)) in
       let front_size : length front ≡ length p.before + length p.word + length p.after = ap (λ (z : List ℕ). length z) p.whole ∙ front_length p.before p.word p.after in
       let back_size : length back ≡ suc (length front + length behind) = ap (λ (z : List ℕ). length z) others.2 ∙ ap suc (length-append front behind) in
       let place : next + length front ≡ next + length p.before + length p.word + length p.after = omega (arith, front_size) in
       let below = elements_read ys y n (next + length p.before) p.word p.after behind rest p.spelled p.blank_after (subst (λ (k : ℕ). SpellsMore spell k behind ys) place others.4)
-          (omega (arith, enough, front_size, back_size)) in
+      (omega (arith, enough, front_size, back_size)) in
       ap (λ (z : List ℕ). elements one close (suc n) (rest_at at (word ++ (after ++ z)))) back_is
       ∙ elements-goes one close n here mid then x (read at word x (after ++ 44 ∷ (p.before ++ left)) spelled stops) comma
       ∙ ap (with_front (x ∷ [])) below
@@ -169,7 +168,7 @@ module _ {X : Type 0} (spell : Spelling X) (one : Rest → Reads X)
       let here : Rest = rest_at (at + length p.before) left in
       let opens : Begins p.word = begins (at + length p.before) p.word x p.spelled in
       let left_is : inside ++ close ∷ rest ≡ p.before ++ left =
-          ap (λ (z : List ℕ). z ++ close ∷ rest) (all.2 ∙ ap (λ (z : List ℕ). z ++ back) p.whole) ∙ padded_left p.before p.word p.after back rest in
+      ap (λ (z : List ℕ). z ++ close ∷ rest) (all.2 ∙ ap (λ (z : List ℕ). z ++ back) p.whole) ∙ padded_left p.before p.word p.after back rest in
       let front_size : length front ≡ length p.before + length p.word + length p.after = ap (λ (z : List ℕ). length z) p.whole ∙ front_length p.before p.word p.after in
       let size : length inside ≡ length front + length back = ap (λ (z : List ℕ). length z) all.2 ∙ length-append front back in
       let place : at + length front ≡ at + length p.before + length p.word + length p.after = omega (arith, front_size) in

@@ -1,19 +1,18 @@
 -- A value that is read is spelled.
-use Rattle.std.proofs.Common.{◌≡◌, ◌∙◌, ℕ, zero, suc, ◌+◌, ◌-◌, Bool, true, false, List, [], ◌∷◌, ◌++◌, length, take, drop, Result, Ok, Err, inl, inr, refl, sym, ap, subst, arith, cond, append_assoc, length-append}
+use Rattle.std.proofs.Common.{◌≡◌, ◌∙◌, ℕ, zero, suc, ◌+◌, ◌-◌, Bool, true, false, List, [], ◌∷◌, ◌++◌, length, take, drop, Ok, Err, inl, inr, refl, sym, ap, subst, arith, cond, append_assoc, length-append}
 use Rattle.std.specs.Prelude.{◌==◌, ◌&&◌, ◌||◌, not, codes, IsTrue}
 use Rattle.std.specs.List.{prefix_len, list_all, list_any}
 use Rattle.std.specs.Str.Lossy.{utf8_valid_len}
 use Rattle.std.proofs.lemmas.Bool.Decides.{nat_tests}
 use Rattle.std.proofs.lemmas.List.{append-nil}
-use Rattle.pdata_value.specs.Numeral.{numeral, IsNumeral}
+use Rattle.pdata_value.specs.Numeral.{numeral}
 use Rattle.json_text.specs.Place.{Rest, head, past, is_blank, blanks}
-use Rattle.json_text.specs.Reading.{Reads, ◌>>=◌, with_front, this, these, number_end, number, quoted, comma_or, more, elements, sequence, member, make, literal, scalar, value, ended, document, json_text}
+use Rattle.json_text.specs.Reading.{Reads, this, these, number_end, number, quoted, comma_or, more, elements, sequence, member, make, literal, scalar, value, document, json_text}
 use Rattle.json_text.specs.Spelling as spelling
 use Rattle.json_text.specs.Spelling.{Spelling, SpellsText, IsBlank, Padded, SpellsMore, SpellsAll, SpellsMember, SpellsScalar, SpellsContainer, SpellsValue, SpellsJson}
 use Rattle.json_text.specs.declared.json.Json.{Json}
 use Rattle.json_text.specs.declared.json.JsonKind.{JsonKind}
 use Rattle.json_text.specs.declared.json.JsonKind.TheVariants as kinds
-use Rattle.json_text.specs.declared.error.JsonFault.{JsonFault}
 use Rattle.json_text.specs.declared.error.JsonFault.TheVariants.{TooDeep}
 use Rattle.json_text.proofs.Numerals.{bind_ok, by_test, ok_same, number_end-spelled, Spelled-word}
 use Rattle.json_text.proofs.TextBack.{rest_at}
@@ -93,17 +92,22 @@ text_took r q is =
 scalar_took : (r : Rest) (p : Json × Rest) → scalar r ≡ Ok p → Took (λ w. (p.0.at ≡ r.at) × SpellsScalar w p.0.kind) r p.1
 unfolding scalar
 scalar_took r p is =
-    elim (by_test (head r == 34) _ _ _ is) [ inl a ↦ made_took SpellsScalar r kinds.Text (quoted r) p a.1 (text_took r) | inr a ↦
-    elim (by_test (head r == 116) _ _ _ a.1) [
-      | inl b ↦ made_took SpellsScalar r (λ k. k) (literal (kinds.Truth true) (codes "true") r) p b.1 (word_took (kinds.Truth true) (codes "true") refl spelling.true_word r)
-      | inr b ↦
-    elim (by_test (head r == 102) _ _ _ b.1) [
-      | inl c ↦ made_took SpellsScalar r (λ k. k) (literal (kinds.Truth false) (codes "false") r) p c.1 (word_took (kinds.Truth false) (codes "false") refl spelling.false_word r)
-      | inr c ↦
-    elim (by_test (head r == 110) _ _ _ c.1) [
-      | inl d ↦ made_took SpellsScalar r (λ k. k) (literal kinds.Null (codes "null") r) p d.1 (word_took kinds.Null (codes "null") refl spelling.null_word r)
-      | inr d ↦ made_took SpellsScalar r kinds.Number (number r) p d.1 (number_took r)
-    ] ] ] ]
+    elim (by_test (head r == 34) _ _ _ is) [
+      | inl a ↦ made_took SpellsScalar r kinds.Text (quoted r) p a.1 (text_took r)
+      | inr a ↦
+          elim (by_test (head r == 116) _ _ _ a.1) [
+            | inl b ↦ made_took SpellsScalar r (λ k. k) (literal (kinds.Truth true) (codes "true") r) p b.1 (word_took (kinds.Truth true) (codes "true") refl spelling.true_word r)
+            | inr b ↦
+                elim (by_test (head r == 102) _ _ _ b.1) [
+                  | inl c ↦ made_took SpellsScalar r (λ k. k) (literal (kinds.Truth false) (codes "false") r) p c.1 (word_took (kinds.Truth false) (codes "false") refl spelling.false_word r)
+                  | inr c ↦
+                      elim (by_test (head r == 110) _ _ _ c.1) [
+                        | inl d ↦ made_took SpellsScalar r (λ k. k) (literal kinds.Null (codes "null") r) p d.1 (word_took kinds.Null (codes "null") refl spelling.null_word r)
+                        | inr d ↦ made_took SpellsScalar r kinds.Number (number r) p d.1 (number_took r)
+                      ]
+                ]
+          ]
+    ]
 
 -- What stands between brackets.
 front_back : (before word after back tail : List ℕ) → before ++ (word ++ (after ++ (back ++ tail))) ≡ (before ++ word ++ after ++ back) ++ tail
@@ -202,10 +206,10 @@ module _ {X : Type 0} (spell : Spelling X) (close : ℕ) where
               let q = bind_ok (elements one close n next) _ p goes in
               let byte : Took (Just (44 ∷ [])) mid (past 1 mid) = subst (λ (b : ℕ). Took (Just (b ∷ [])) mid (past 1 mid)) (same_number (head mid) 44 comma.0) (took_byte (λ b. b == 44) mid comma.0 refl) in
               let behind = took_then IsBlank (Filled next.at q.0.0) (λ w. (before : List ℕ) × (rest : List ℕ) × IsBlank before × Filled ((past 1 mid).at + length before) q.0.0 rest × (w ≡ before ++ rest))
-                  (past 1 mid) next q.0.1 (blanks_took (past 1 mid)) (elements_took n next q.0 q.1) (λ u v place b f. (u, v, b, subst (λ (k : ℕ). Filled k q.0.0 v) place f, refl)) in
+              (past 1 mid) next q.0.1 (blanks_took (past 1 mid)) (elements_took n next q.0 q.1) (λ u v place b f. (u, v, b, subst (λ (k : ℕ). Filled k q.0.0 v) place f, refl)) in
               let tail = took_then (Just (44 ∷ [])) (λ w. (before : List ℕ) × (rest : List ℕ) × IsBlank before × Filled ((past 1 mid).at + length before) q.0.0 rest × (w ≡ before ++ rest)) (Tail mid.at q.0.0)
-                  mid (past 1 mid) q.0.1 byte behind
-                  (λ u v place e f. subst (Tail mid.at q.0.0) (sym (ap (λ (z : List ℕ). z ++ v) e ∙ ap (λ (z : List ℕ). 44 ∷ z) f.4)) (tail_of mid.at f.0 f.1 q.0.0 f.2 f.3)) in
+              mid (past 1 mid) q.0.1 byte behind
+              (λ u v place e f. subst (Tail mid.at q.0.0) (sym (ap (λ (z : List ℕ). z ++ v) e ∙ ap (λ (z : List ℕ). 44 ∷ z) f.4)) (tail_of mid.at f.0 f.1 q.0.0 f.2 f.3)) in
               subst (λ (j : List X × Rest). Took (Filled r.at j.0) r j.1) (ok_same _ _ q.2) (joined r a.0.1 q.0.1 a.0.0 q.0.0 (sound r a.0 a.1) tail)
           | inr other ↦ elim (by_test (head mid == close) _ _ _ other.1) [
             | inl closes ↦
@@ -258,15 +262,17 @@ module _ (spell : Spelling Json) (read : Rest → Reads Json) (sound : (r : Rest
       let json : Json = v.0.0 in
       let to : Rest = v.0.1 in
       let behind = took_then IsBlank (λ w. spell (blanks c.0).at w json) (Behind_colon c.0.at json) c.0 (blanks c.0) to (blanks_took c.0) (sound (blanks c.0) v.0 v.1)
-          (λ x y place b s. (x, y, b, subst (λ (n : ℕ). spell n y json) place s, refl)) in
+      (λ x y place b s. (x, y, b, subst (λ (n : ℕ). spell n y json) place s, refl)) in
       let colon = took_then (Just (58 ∷ [])) (Behind_colon c.0.at json) (From_colon mid.at json) mid c.0 to (this_took 58 refl mid c.0 c.1) behind
-          (λ x y place e b. (
-            b.0, b.1, b.2,
-            subst (λ (n : ℕ). spell (n + length b.0) b.1 json) (place ∙ ap (λ (z : List ℕ). mid.at + length z) e) b.3,
-            ap (λ (z : List ℕ). z ++ y) e ∙ ap (λ (z : List ℕ). 58 ∷ z) b.4,
-          )) in
+      (λ x y place e b. (
+        b.0,
+        b.1,
+        b.2,
+        subst (λ (n : ℕ). spell (n + length b.0) b.1 json) (place ∙ ap (λ (z : List ℕ). mid.at + length z) e) b.3,
+        ap (λ (z : List ℕ). z ++ y) e ∙ ap (λ (z : List ℕ). 58 ∷ z) b.4,
+      )) in
       let rest = took_then IsBlank (From_colon mid.at json) (Behind_key k.0.1.at json) k.0.1 mid to (blanks_took k.0.1) colon
-          (λ x y place b f. (x, y, b, subst (λ (n : ℕ). From_colon n json y) place f, refl)) in
+      (λ x y place b f. (x, y, b, subst (λ (n : ℕ). From_colon n json y) place f, refl)) in
       subst (λ (j : (List ℕ × Json) × Rest). Took (λ w. SpellsMember spell r.at w j.0) r j.1) (ok_same _ _ v.2)
       (took_then (λ w. SpellsText w k.0.0) (Behind_key k.0.1.at json) (λ w. SpellsMember spell r.at w (k.0.0, json)) r k.0.1 to (quoted_took r k.0 k.1) rest
       (λ x y place t f. record {
@@ -310,7 +316,7 @@ unfolding value
 value_took zero r p is = elim (by_test (head r == 91 || head r == 123) (Err (TooDeep r.at)) (scalar r) (Ok p) is) [ inl deep ↦ absurd (let e = deep.1 in cc) | inr flat ↦ scalar_took r p flat.1 ]
 value_took (suc depth) r p is =
     let contained : Took (λ w. (p.0.at ≡ r.at) × Inner depth r.at w p.0.kind) r p.1 → Took (λ w. SpellsValue (suc depth) r.at w p.0) r p.1 =
-        λ t. record { word = t.word; whole = t.whole; place = t.place; spelled = (t.spelled.0, inr t.spelled.1) } in
+    λ t. record { word = t.word; whole = t.whole; place = t.place; spelled = (t.spelled.0, inr t.spelled.1) } in
     elim (by_test (head r == 91) _ _ _ is) [
       | inl a ↦
           contained (made_took (Inner depth r.at) r kinds.List (sequence (value depth) 93 (length r.left) (past 1 r)) p a.1 (list_took depth (value_took depth) r (same_number (head r) 91 a.0)))
@@ -342,7 +348,7 @@ document_spelled depth bytes json is =
           let after = blanks_took v.0.1 in
           let ends : v.0.1.left ≡ after.word = after.whole ∙ ap (λ (z : List ℕ). after.word ++ z) (none_left last.left all.0) ∙ append-nil after.word in
           let whole : bytes ≡ before.word ++ inside.word ++ after.word =
-              before.whole ∙ ap (λ (z : List ℕ). before.word ++ z) (inside.whole ∙ ap (λ (z : List ℕ). inside.word ++ z) ends) ∙ sym (append_assoc before.word inside.word after.word) in
+          before.whole ∙ ap (λ (z : List ℕ). before.word ++ z) (inside.whole ∙ ap (λ (z : List ℕ). inside.word ++ z) ends) ∙ sym (append_assoc before.word inside.word after.word) in
           subst (SpellsJson depth bytes) (ok_same _ _ all.1)
           (record {
             before = before.word;

@@ -33,11 +33,12 @@ pub fn reading_is_the_grammar()
     ensures deeper_spells_more { (depth : ℕ) (text : List ℕ) → spells (json depth) text → spells (json (suc depth)) text }
 {}
 
-/// The value that is read is the one that the text spells, by the grammar's cases.
+/// The value that is read is the one that the text spells, by the cases of the grammar.
 pub fn spelled_value_is_read()
-    ensures read_is_spelled { (bytes : List ℕ) (depth : ℕ) (value : Json) → json_text bytes depth ≡ Ok value → SpellsJson depth bytes value }
-    ensures spelled_is_read { (bytes : List ℕ) (depth : ℕ) (value : Json) → IsUtf8 bytes → SpellsJson depth bytes value
-        → json_text bytes depth ≡ Ok value }
+    ensures read_is_spelled { (bytes : List ℕ) (depth : ℕ) (value : Json)
+        → json_text bytes depth ≡ Ok value → SpellsJson depth bytes value }
+    ensures spelled_is_read { (bytes : List ℕ) (depth : ℕ) (value : Json)
+        → IsUtf8 bytes → SpellsJson depth bytes value → json_text bytes depth ≡ Ok value }
 {}
 
 /// What is written is read again as the value written, with the places of the new text.
