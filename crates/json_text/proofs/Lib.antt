@@ -22,3 +22,7 @@ pub mod Deeper
 pub mod KindLemmas
 pub mod NullPlaces
 pub mod CutObjects
+mod TextSpelled
+mod ValueSpelled
+mod TextRead
+mod ValueRead

@@ -6,7 +6,7 @@ use Rattle.std.proofs.lemmas.List.{append-nil}
 use Rattle.contract_words.specs.Grammar.{Rule, nothing, byte, alt, seq, many, Turns, spells}
 use Rattle.contract_words.specs.Rows.{row_first, fits_row}
 use Rattle.pdata_value.specs.Numeral.{is_digit, is_leading, is_e, is_sign, numeral, IsNumeral}
-use Rattle.json_text.specs.Place.{Rest}
+use Rattle.json_text.specs.Place.{Rest, is_blank}
 use Rattle.json_text.specs.Reading.{◌>>=◌, number_end, number}
 use Rattle.json_text.specs.declared.error.JsonFault.{JsonFault}
 use Rattle.json_text.specs.declared.error.JsonFault.TheVariants.{BadUtf8, BadJson, TooDeep, NoMemory}
@@ -82,25 +82,39 @@ pub data Ended : List ℕ → Type 0 where
   at_end : Ended []
   closed : (b : ℕ) (tail : List ℕ) → closing b ≡ true → Ended (b ∷ tail)
 
+-- or a blank
+abbrev pub stopping : ℕ → Bool
+stopping b = is_blank b || closing b
+
+pub data Stopped : List ℕ → Type 0 where
+  at_stop : Stopped []
+  stopped : (b : ℕ) (tail : List ℕ) → stopping b ≡ true → Stopped (b ∷ tail)
+
+pub ended_stops : (rest : List ℕ) → Ended rest → Stopped rest
+ended_stops [] e = at_stop
+ended_stops (b ∷ tail) (closed c more is) = stopped b tail (closing_stops b is) where
+  closing_stops : (b : ℕ) → closing b ≡ true → stopping b ≡ true
+  closing_stops b h = grind (arith, nat_tests)
+
 abbrev anything : ℕ → Bool
 anything b = true
 
 abbrev rest_rule : Rule
-rest_rule = alt nothing (seq (byte closing) (many (byte anything)))
+rest_rule = alt nothing (seq (byte stopping) (many (byte anything)))
 
 any_turns : (tail : List ℕ) → Turns (spells (byte anything)) (length tail) tail
 any_turns [] = refl
 any_turns (b ∷ tail) = (b ∷ [], tail, (b, refl, refl), any_turns tail, refl)
 
-ended_spelled : (rest : List ℕ) → Ended rest → spells rest_rule rest
-ended_spelled [] e = inl refl
-ended_spelled (b ∷ tail) (closed c more is) = inr (b ∷ [], tail, (b, is, refl), (length tail, any_turns tail), refl)
+stopped_spelled : (rest : List ℕ) → Stopped rest → spells rest_rule rest
+stopped_spelled [] e = inl refl
+stopped_spelled (b ∷ tail) (stopped c more is) = inr (b ∷ [], tail, (b, is, refl), (length tail, any_turns tail), refl)
 
-ended_of : (left : List ℕ) → spells rest_rule left → Ended left
-ended_of left (inl s) = subst Ended (sym s) at_end
-ended_of left (inr s) =
+stopped_of : (left : List ℕ) → spells rest_rule left → Stopped left
+stopped_of left (inl s) = subst Stopped (sym s) at_stop
+stopped_of left (inr s) =
     let first_byte = s.2 in
-    subst Ended (sym (s.4 ∙ ap (λ (x : List ℕ). x ++ s.1) first_byte.2)) (closed first_byte.0 s.1 first_byte.1)
+    subst Stopped (sym (s.4 ∙ ap (λ (x : List ℕ). x ++ s.1) first_byte.2)) (stopped first_byte.0 s.1 first_byte.1)
 
 none_both : {X : Type 0} → false ≡ true → X
 none_both e = absurd cc
@@ -111,41 +125,41 @@ rows_fit = (
   none_both,
   (((λ b h k. none_both h), tt, (tt, none_both, (refl, tt, λ b h k. none_both k), (λ null b h k. none_both k))), (λ null b h k. none_both k), tt),
 ) where
-  apart : (b : ℕ) → (is_digit b || ((b == 46) || is_e b)) ≡ true → ((false || (closing b || (false && true))) || (true && false)) ≡ true → ⊥
+  apart : (b : ℕ) → (is_digit b || ((b == 46) || is_e b)) ≡ true → ((false || (stopping b || (false && true))) || (true && false)) ≡ true → ⊥
   apart b h k = grind (arith, nat_tests)
 
-not_numeric : (b c : ℕ) → b ≡ c → numeric b ≡ true → closing c ≡ true → ⊥
-not_numeric b c same h k = clash b h (subst (λ (n : ℕ). closing n ≡ true) (sym same) k) where
-  clash : (b : ℕ) → numeric b ≡ true → closing b ≡ true → ⊥
+not_numeric : (b c : ℕ) → b ≡ c → numeric b ≡ true → stopping c ≡ true → ⊥
+not_numeric b c same h k = clash b h (subst (λ (n : ℕ). stopping n ≡ true) (sym same) k) where
+  clash : (b : ℕ) → numeric b ≡ true → stopping b ≡ true → ⊥
   clash b h k = grind (arith, nat_tests)
 
 -- two cuts behind a numeral are one
-only_cut : (s w rest left : List ℕ) → Each numeric s → Each numeric w → Ended rest → Ended left → s ++ rest ≡ w ++ left → (w ≡ s) × (left ≡ rest)
+only_cut : (s w rest left : List ℕ) → Each numeric s → Each numeric w → Stopped rest → Stopped left → s ++ rest ≡ w ++ left → (w ≡ s) × (left ≡ rest)
 only_cut [] [] rest left es ew er el is = (refl, sym is)
 only_cut [] (b ∷ w) [] left es ew er el is = absurd cc
-only_cut [] (b ∷ w) (c ∷ rest) left es ew (closed d more k) el is = absurd (not_numeric b c (let same : b ≡ c = cc in same) ew.0 k)
+only_cut [] (b ∷ w) (c ∷ rest) left es ew (stopped d more k) el is = absurd (not_numeric b c (let same : b ≡ c = cc in same) ew.0 k)
 only_cut (a ∷ s) [] rest [] es ew er el is = absurd cc
-only_cut (a ∷ s) [] rest (c ∷ left) es ew er (closed d more k) is = absurd (not_numeric a c (let same : a ≡ c = cc in same) es.0 k)
+only_cut (a ∷ s) [] rest (c ∷ left) es ew er (stopped d more k) is = absurd (not_numeric a c (let same : a ≡ c = cc in same) es.0 k)
 only_cut (a ∷ s) (b ∷ w) rest left es ew er el is =
     let head_same : b ≡ a = cc in
     let tail_same : s ++ rest ≡ w ++ left = cc in
     let below = only_cut s w rest left es.1 ew.1 er el tail_same in
     (ap (λ (n : ℕ). n ∷ w) head_same ∙ ap (λ (z : List ℕ). a ∷ z) below.0, below.1)
 
-accepted : (s rest : List ℕ) → IsNumeral s → Ended rest → (run (numeral ∷ rest_rule ∷ []) (s ++ rest)).1 ≡ true
-accepted s rest numeral_is ended =
-    run_of_spelled (numeral ∷ rest_rule ∷ []) (s ++ rest) rows_fit (s, rest, numeral_is, (rest, [], ended_spelled rest ended, refl, sym (append-nil rest)), refl)
+accepted : (s rest : List ℕ) → IsNumeral s → Stopped rest → (run (numeral ∷ rest_rule ∷ []) (s ++ rest)).1 ≡ true
+accepted s rest numeral_is stops =
+    run_of_spelled (numeral ∷ rest_rule ∷ []) (s ++ rest) rows_fit (s, rest, numeral_is, (rest, [], stopped_spelled rest stops, refl, sym (append-nil rest)), refl)
 
-module _ (s rest : List ℕ) (at : ℕ) (numeral_is : IsNumeral s) (ended : Ended rest) where
+module _ (s rest : List ℕ) (at : ℕ) (numeral_is : IsNumeral s) (stops : Stopped rest) where
   found : (e : Rest) → number_end (rest_at at (s ++ rest)) ≡ Ok e → Goes 1 (run (numeral ∷ rest_rule ∷ []) (s ++ rest)) (rest_at at (s ++ rest)) (rest_rule ∷ []) e
       → number (rest_at at (s ++ rest)) ≡ Ok (s, rest_at (at + length s) rest)
   found e read goes =
       let r : Rest = rest_at at (s ++ rest) in
-      let left_runs : (run (rest_rule ∷ []) e.left).1 ≡ true = sym (ap (λ (o : ℕ × Bool). o.1) goes.runs) ∙ accepted s rest numeral_is ended in
+      let left_runs : (run (rest_rule ∷ []) e.left).1 ≡ true = sym (ap (λ (o : ℕ × Bool). o.1) goes.runs) ∙ accepted s rest numeral_is stops in
       let row = spelled_of_run (rest_rule ∷ []) e.left left_runs in
       let left_is : spells rest_rule e.left = subst (spells rest_rule) (sym (row.4 ∙ ap (λ (y : List ℕ). row.0 ++ y) row.3 ∙ append-nil row.0)) row.2 in
       let spelled = number_end-spelled r e read in
-      let cut = only_cut s spelled.word rest e.left (each_spelled numeric numeral numeral_only s numeral_is) (each_spelled numeric numeral numeral_only spelled.word spelled.spelled) ended (ended_of e.left left_is) spelled.whole in
+      let cut = only_cut s spelled.word rest e.left (each_spelled numeric numeral numeral_only s numeral_is) (each_spelled numeric numeral numeral_only spelled.word spelled.spelled) stops (stopped_of e.left left_is) spelled.whole in
       let place : e.at ≡ at + length s = spelled.place ∙ ap (λ (w : List ℕ). at + length w) cut.0 in
       ap (λ (m : Result Rest JsonFault). m >>= λ q. Ok (take (length (s ++ rest) - length q.left) (s ++ rest), q)) read
       ∙ ap (λ (w : List ℕ). Ok (w, e)) (Spelled-word numeral r e spelled ∙ cut.0)
@@ -154,8 +168,8 @@ module _ (s rest : List ℕ) (at : ℕ) (numeral_is : IsNumeral s) (ended : Ende
   by_answer : (res : Result Rest JsonFault) → number_end (rest_at at (s ++ rest)) ≡ res → Follows here false 1 (run (numeral ∷ rest_rule ∷ []) (s ++ rest)) (rest_at at (s ++ rest)) (rest_rule ∷ []) res
       → number (rest_at at (s ++ rest)) ≡ Ok (s, rest_at (at + length s) rest)
   by_answer (Ok e) read h = found e read h
-  by_answer (Err (BadJson k)) read h = absurd (let e : true ≡ false = sym (accepted s rest numeral_is ended) ∙ ap (λ (o : ℕ × Bool). o.1) h.runs in cc)
-  by_answer (Err (TooDeep k)) read h = absurd (let e : true ≡ false = sym (accepted s rest numeral_is ended) ∙ ap (λ (o : ℕ × Bool). o.1) h.runs in cc)
+  by_answer (Err (BadJson k)) read h = absurd (let e : true ≡ false = sym (accepted s rest numeral_is stops) ∙ ap (λ (o : ℕ × Bool). o.1) h.runs in cc)
+  by_answer (Err (TooDeep k)) read h = absurd (let e : true ≡ false = sym (accepted s rest numeral_is stops) ∙ ap (λ (o : ℕ × Bool). o.1) h.runs in cc)
   by_answer (Err (BadUtf8 k)) read h = absurd h
   by_answer (Err NoMemory) read h = absurd h
 

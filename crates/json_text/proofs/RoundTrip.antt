@@ -19,7 +19,7 @@ use Rattle.json_text.proofs.Values.{value-list, value-object, value-scalar, json
 use Rattle.json_text.proofs.Layers.{IsKind, is_null, is_truth, is_number, is_text, is_list, is_object, kind_of, deepest_item, deepest_member, deepest-cons, containers-List, containers-Object, numbers-Number, numbers-List, numbers-Object, item_numbers, member_numbers, placing-Null, placing-Truth, placing-Number, placing-Text, placing-List, placing-Object}
 use Rattle.json_text.proofs.Fitting.{opening}
 use Rattle.json_text.proofs.TextBack.{rest_at, placed_rest, quoted_read}
-use Rattle.json_text.proofs.NumberBack.{Ended, at_end}
+use Rattle.json_text.proofs.NumberBack.{Ended, at_end, ended_stops}
 use Rattle.json_text.proofs.ValueBack.{Starts, starts, no_blank, starts_blanks, make_read, numeral_starts, numeral_begins, number_back, text_back, null_back, true_back, false_back, ReadsOne, AllRead, put_all, sequence_read}
 
 -- The text in which a value is placed is its text.
@@ -109,7 +109,7 @@ number_value depth [] rest at h ended = absurd (empty (numeral_starts [] h)) whe
   empty (starts c cs is opens) = cc
 number_value depth (c ∷ cs) rest at h ended =
     let not_bracket = numeral_head c (starts_opening c cs (numeral_starts (c ∷ cs) h)) (numeral_begins c cs h) in
-    value-scalar depth (rest_at at (c ∷ (cs ++ rest))) not_bracket.0 not_bracket.1 ∙ number_back (c ∷ cs) rest at h ended
+    value-scalar depth (rest_at at (c ∷ (cs ++ rest))) not_bracket.0 not_bracket.1 ∙ number_back (c ∷ cs) rest at h (ended_stops rest ended)
   where
     starts_opening : (c : ℕ) (cs : List ℕ) → Starts (c ∷ cs) → opening c ≡ true
     starts_opening c cs (starts d ds is opens) = subst (λ (n : ℕ). opening n ≡ true) (let same : d ≡ c = cc in same) opens

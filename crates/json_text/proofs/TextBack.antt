@@ -55,7 +55,7 @@ code_read b at rest less =
     two_read (0 * 16 + 0) (b / 16) (b % 16) (at + 1 + 1 + 1) rest (omega arith) (omega arith)
     ∙ ap (λ (n : ℕ). Ok (n, record { at = at + 1 + 1 + 1 + 1 + 1; left = rest })) code ∙ ap (λ (n : ℕ). Ok (b, record { at = n; left = rest })) place
 
-short_read : (letter at : ℕ) (rest : List ℕ) → (letter == 117) ≡ false → is_short letter ≡ true → escape (record { at = at; left = letter ∷ rest }) ≡ Ok (short letter, record { at = at + 1; left = rest })
+pub short_read : (letter at : ℕ) (rest : List ℕ) → (letter == 117) ≡ false → is_short letter ≡ true → escape (record { at = at; left = letter ∷ rest }) ≡ Ok (short letter, record { at = at + 1; left = rest })
 unfolding escape
 short_read letter at rest other is =
     cond-false (letter == 117) _ _ other ∙ ap (λ (m : Reads ℕ). m >>= λ p. Ok (short p.0, p.1)) (one_of-is is_short (record { at = at; left = letter ∷ rest }) is)

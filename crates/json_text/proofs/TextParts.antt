@@ -1,5 +1,5 @@
 -- The reading of a text does what the text's rule does.
-use Rattle.std.proofs.Common.{◌≡◌, ◌∙◌, ℕ, zero, suc, ◌+◌, ◌-◌, ◌*◌, ◌<◌, Bool, true, false, List, [], ◌∷◌, ◌++◌, length, Ok, refl, sym, subst, arith, cond}
+use Rattle.std.proofs.Common.{◌≡◌, ◌∙◌, ℕ, zero, suc, ◌+◌, ◌*◌, ◌<◌, Bool, true, false, List, [], ◌∷◌, ◌++◌, length, Ok, refl, sym, subst, arith, cond}
 use Rattle.std.specs.Prelude.{◌&&◌, ◌||◌, ◌==◌, nat_lt, not}
 use Rattle.std.specs.Char.{digit_value, encode_utf8}
 use Rattle.std.specs.Int.{is_in_range}
@@ -164,16 +164,16 @@ module _ (deeper : Bool) where
       let third : Rule = seq (hex_rule 13 13) second in
       follows_same behind_it deeper 1 _ _ r rs _ (run-seq (one 92) (seq (one 117) third) rs r.left)
       (follows_bind behind_it behind_it deeper 1 0 _ r (second ∷ rs) rs (this 92 r >>= this 117 >>= hex 13 13)
-      (λ a. hex 12 15 a.1 >>= λ b. two_more (208 + b.0) b.1 >>= λ low. Ok (65536 + (high - 55296) * 1024 + (low.0 - 56320), low.1))
+      _
       (follows_bind here behind_it deeper 1 0 _ r (third ∷ rs) (second ∷ rs) (this 92 r >>= this 117) (hex 13 13)
       (follows_bind here here deeper 1 0 _ r (seq (one 117) third ∷ rs) (third ∷ rs) (this 92 r) (this 117) (this_follows deeper 92 refl (seq (one 117) third ∷ rs) r)
       (λ q. follows_less here deeper 0 1 _ q (third ∷ rs) _ (omega arith) (follows_same here deeper 1 _ _ q (third ∷ rs) (this 117 q) (run-seq (one 117) third rs q.left) (this_follows deeper 117 refl (third ∷ rs) q))))
       (λ q. follows_less behind_it deeper 0 1 _ q (second ∷ rs) _ (omega arith) (follows_same behind_it deeper 1 _ _ q (second ∷ rs) (hex 13 13 q) (run-seq (hex_rule 13 13) second rs q.left) (hex_follows 13 13 refl (second ∷ rs) q))))
       (λ a. follows_less behind_it deeper 0 1 _ a.1 rs _ (omega arith)
       (follows_same behind_it deeper 1 _ _ a.1 rs _ (run-seq (hex_rule 12 15) two_digits rs a.1.left)
-      (follows_bind behind_it behind_it deeper 1 0 _ a.1 last rs (hex 12 15 a.1) (λ b. two_more (208 + b.0) b.1 >>= λ low. Ok (65536 + (high - 55296) * 1024 + (low.0 - 56320), low.1)) (hex_follows 12 15 refl last a.1)
+      (follows_bind behind_it behind_it deeper 1 0 _ a.1 last rs (hex 12 15 a.1) _ (hex_follows 12 15 refl last a.1)
       (λ b. follows_less behind_it deeper 0 1 _ b.1 rs _ (omega arith)
-      (follows_bind behind_it behind_it deeper 1 0 _ b.1 rs rs (two_more (208 + b.0) b.1) (λ low. Ok (65536 + (high - 55296) * 1024 + (low.0 - 56320), low.1)) (two_more_follows (208 + b.0) rs b.1)
+      (follows_bind behind_it behind_it deeper 1 0 _ b.1 rs rs (two_more (208 + b.0) b.1) _ (two_more_follows (208 + b.0) rs b.1)
       (λ low. goes_on (run rs low.1.left) low.1 rs refl)))))))
 
   -- behind a first digit D

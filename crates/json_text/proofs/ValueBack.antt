@@ -16,7 +16,7 @@ use Rattle.json_text.specs.declared.error.JsonFault.{JsonFault}
 use Rattle.json_text.proofs.Turns.{cond-true, cond-false, elements-goes, elements-end}
 use Rattle.json_text.proofs.Fitting.{opening}
 use Rattle.json_text.proofs.TextBack.{rest_at, placed_rest, these_read, quoted_read}
-use Rattle.json_text.proofs.NumberBack.{closing, Ended, at_end, closed, number_read}
+use Rattle.json_text.proofs.NumberBack.{closing, Ended, at_end, closed, Stopped, number_read}
 
 -- a text that begins as a value or a member does
 pub data Starts (word : List ℕ) : Type 0 where
@@ -65,11 +65,11 @@ is_number r h = cond-false (head r == 34) _ _ h.0 ∙ cond-false (head r == 116)
 pub make_read : {X : Type 0} (r : Rest) (kind : X → JsonKind) (read : Reads X) (x : X) (after : Rest) → read ≡ Ok (x, after) → make r kind read ≡ Ok (record { at = r.at; kind = kind x }, after)
 make_read r kind read x after is = rw is refl
 
-pub number_back : (s rest : List ℕ) (at : ℕ) → IsNumeral s → Ended rest → scalar (rest_at at (s ++ rest)) ≡ Ok (record { at = at; kind = kinds.Number s }, rest_at (at + length s) rest)
-number_back [] rest at h ended = absurd (let none : false ≡ true = nullable_of numeral h in cc)
-number_back (c ∷ cs) rest at h ended =
+pub number_back : (s rest : List ℕ) (at : ℕ) → IsNumeral s → Stopped rest → scalar (rest_at at (s ++ rest)) ≡ Ok (record { at = at; kind = kinds.Number s }, rest_at (at + length s) rest)
+number_back [] rest at h stops = absurd (let none : false ≡ true = nullable_of numeral h in cc)
+number_back (c ∷ cs) rest at h stops =
     is_number (rest_at at (c ∷ (cs ++ rest))) (no_words c (numeral_begins c cs h))
-    ∙ make_read (rest_at at (c ∷ (cs ++ rest))) kinds.Number (number (rest_at at (c ∷ (cs ++ rest)))) (c ∷ cs) _ (number_read (c ∷ cs) rest at h ended)
+    ∙ make_read (rest_at at (c ∷ (cs ++ rest))) kinds.Number (number (rest_at at (c ∷ (cs ++ rest)))) (c ∷ cs) _ (number_read (c ∷ cs) rest at h stops)
 
 pub text_back : (t rest : List ℕ) (at : ℕ) → scalar (rest_at at (quoted_text t ++ rest)) ≡ Ok (record { at = at; kind = kinds.Text t }, rest_at (at + length (quoted_text t)) rest)
 unfolding scalar

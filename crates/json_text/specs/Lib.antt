@@ -3,6 +3,7 @@ pub mod Place
 pub mod Reading
 pub mod Writing
 pub mod Grammar
+pub mod Spelling
 pub mod Placed
 pub mod Kinds
 pub mod Members

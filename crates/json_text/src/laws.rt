@@ -9,6 +9,7 @@ ghost use Rattle.pdata_value.specs.Numeral.{IsNumeral};
 ghost use Rattle.json_text.specs.Grammar.{json, IsJsonPrefix};
 ghost use Rattle.json_text.specs.Placed.{containers, placed};
 ghost use Rattle.json_text.specs.Reading.{json_text};
+ghost use Rattle.json_text.specs.Spelling.{SpellsJson};
 ghost use Rattle.json_text.specs.Writing.{numbers_of, texts_of, text_of};
 ghost use Rattle.json_text.specs.declared.json.Json.{Json};
 ghost use Rattle.json_text.specs.declared.error.JsonFault.TheVariants.{BadJson, TooDeep};
@@ -30,6 +31,14 @@ pub fn reading_is_the_grammar()
     ensures deeper_goes_on { (bytes : List ℕ) (depth at deeper : ℕ) → json_text bytes depth ≡ Err (TooDeep at) → depth < deeper
         → (count : ℕ) × (at < count) × IsLongest (viable (json deeper)) bytes count }
     ensures deeper_spells_more { (depth : ℕ) (text : List ℕ) → spells (json depth) text → spells (json (suc depth)) text }
+{}
+
+/// The value that is read is the one that the text spells, by the cases of the grammar.
+pub fn spelled_value_is_read()
+    ensures read_is_spelled { (bytes : List ℕ) (depth : ℕ) (value : Json)
+        → json_text bytes depth ≡ Ok value → SpellsJson depth bytes value }
+    ensures spelled_is_read { (bytes : List ℕ) (depth : ℕ) (value : Json)
+        → IsUtf8 bytes → SpellsJson depth bytes value → json_text bytes depth ≡ Ok value }
 {}
 
 /// What is written is read again as the value written, with the places of the new text.

@@ -20,7 +20,7 @@ pub use cuts::cut_objects_are_refused;
 pub use error::JsonFault;
 pub use json::{Items, Json, JsonKind, Members};
 pub use kinds::Member;
-pub use laws::{reading_is_the_grammar, written_is_read};
+pub use laws::{reading_is_the_grammar, spelled_value_is_read, written_is_read};
 pub use members::{has_standing, stands, stands_under};
 pub use number::number as number_next;
 pub use reader::{goes_on, is_closed, read, value_of};

@@ -2,7 +2,7 @@
 
 use crate::{
     Json, JsonFault, JsonKind, cut_objects_are_refused, push_comma_before, push_json, push_text,
-    read, reading_is_the_grammar, write, written_is_read,
+    read, reading_is_the_grammar, spelled_value_is_read, write, written_is_read,
 };
 use std::alloc::Global;
 use std::process::Abort;
@@ -154,6 +154,7 @@ fn values_stand_at_their_first_bytes(rt: HostRuntime) -> Result<(), Fail> {
 #[test]
 fn a_truth_and_a_text_are_written(rt: HostRuntime) -> Result<(), Fail> {
     reading_is_the_grammar();
+    spelled_value_is_read();
     cut_objects_are_refused();
     written_is_read();
     let json = Json {
