@@ -8,6 +8,8 @@ pub mod ValuesFree
 pub mod Pieces
 pub mod FieldsBack
 pub mod Counting
+pub mod Measured
+pub mod TreesMeasured
 pub mod ValuesBack
 pub mod TreesBack
 pub mod Sound

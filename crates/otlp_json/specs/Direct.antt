@@ -1,5 +1,5 @@
 -- Reading straight from the text of a line: what is read is what the value of JSON that stands there is read as.
-use Rattle.std.specs.Prelude.{◌≡◌, ◌<◌, ℕ, suc, ◌==◌, ◌||◌, Bool, true, false, cond, not, get_or, option_map, List, [], ◌∷◌, Option, Some, None, IfSome, Ok}
+use Rattle.std.specs.Prelude.{◌≡◌, ◌<◌, ℕ, suc, ◌==◌, ◌||◌, Bool, true, false, cond, get_or, option_map, List, [], ◌∷◌, Option, Some, None, IfSome, Ok}
 use Rattle.std.specs.Str.{bytes_eq}
 use Rattle.json_text.specs.Place.{Rest, head, past, blanks}
 use Rattle.json_text.specs.Kinds.{is_null}

@@ -9,7 +9,7 @@ ghost use Rattle.json_text.specs.declared.json.Json.{Json};
 ghost use Rattle.otlp_json.specs.Limits.{most_containers};
 ghost use Rattle.otlp_json.specs.Line.{line};
 ghost use Rattle.otlp_json.specs.Payload.{payload};
-ghost use Rattle.otlp_json.specs.WellFormed.{IsPayload};
+ghost use Rattle.otlp_json.specs.WellFormed.{IsPayload, Within, size_of};
 ghost use Rattle.otlp_json.specs.Reads.{wrong};
 ghost use Rattle.otlp_json.specs.declared.error.PayloadKind.TheVariants.{BadUtf8, BadJson};
 
@@ -27,4 +27,9 @@ pub fn cut_lines_are_refused()
 
     // Within a character: at its first byte, where the longest front that is UTF-8 ends.
     ensures within { (front : List ℕ) (at : ℕ) → IsValidUpTo front at → payload front ≡ wrong BadUtf8 at }
+{}
+
+/// What is read has no more log records, elements and values than a payload may have.
+pub fn payloads_are_within_limits()
+    ensures { (line : List ℕ) (batch : Batch) → payload line ≡ Ok batch → Within (size_of batch) }
 {}
