@@ -68,6 +68,22 @@ fn both(alloc: Global, conditions: &[&str]) -> Result<String, Fail> {
     )?)
 }
 
+// The tree of a root beside which none shares it, filtered, and how many nodes were made.
+fn alone(alloc: Global, conditions: &[&str]) -> Result<String, Fail> {
+    let settings = settings(alloc, PROPAGATE, conditions)?;
+    let mut forest = Forest::new(alloc, 1)?;
+    let root = forest.plant(tree(alloc, &["no"], &["hi", "no"])?)?;
+    let (is_finished, steps) = run(alloc, &settings, &mut forest, &root)?;
+    let text = text_of(alloc, &forest, &root)?;
+    Ok(format!(in alloc;
+        "{} {} {}: {}",
+        is_finished,
+        steps,
+        forest.made(),
+        text.as_str()
+    )?)
+}
+
 #[test]
 fn a_run_makes_no_log_record_and_leaves_other_roots(rt: HostRuntime) -> Result<(), Fail> {
     let text = both(rt.alloc(), &[r#"body == "no""#])?;
@@ -85,5 +101,12 @@ fn a_run_that_fails_keeps_the_tree(rt: HostRuntime) -> Result<(), Fail> {
         text.as_str(),
         "false 2 10: ([ ][ ])([ no ][ hi no ]) beside ([ ][ ])([ no ][ hi no ])"
     );
+    Ok(())
+}
+
+#[test]
+fn a_run_alone_makes_no_log_record(rt: HostRuntime) -> Result<(), Fail> {
+    let text = alone(rt.alloc(), &[r#"body == "no""#])?;
+    assert_eq!(rt; text.as_str(), "true 4 13: ([ hi ])");
     Ok(())
 }

@@ -79,6 +79,22 @@ fn both(alloc: Global, statements: &[&str]) -> Result<String, Fail> {
     )?)
 }
 
+// The tree of a root beside which none shares it, written to by a run, and how many nodes were made.
+fn alone(alloc: Global, statements: &[&str]) -> Result<String, Fail> {
+    let settings = settings(alloc, statements)?;
+    let mut forest = Forest::new(alloc, 1)?;
+    let root = forest.plant(tree(alloc, 2)?)?;
+    let (is_finished, steps) = run(alloc, &settings, &mut forest, &root)?;
+    let text = text_of(alloc, &forest, &root)?;
+    Ok(format!(in alloc;
+        "{} {} {}: {}",
+        is_finished,
+        steps,
+        forest.made(),
+        text.as_str()
+    )?)
+}
+
 #[test]
 fn a_run_makes_what_it_writes_and_leaves_other_roots(rt: HostRuntime) -> Result<(), Fail> {
     let alloc = rt.alloc();
@@ -103,5 +119,12 @@ fn a_run_that_fails_keeps_the_steps_before(rt: HostRuntime) -> Result<(), Fail> 
     ];
     let text = both(alloc, &writes)?;
     assert_eq!(rt; text.as_str(), "false 3 9: [ a=1 ][ ] beside [ ][ ]");
+    Ok(())
+}
+
+#[test]
+fn a_run_alone_makes_nothing(rt: HostRuntime) -> Result<(), Fail> {
+    let text = alone(rt.alloc(), &[r#"set(attributes["a"], 1)"#])?;
+    assert_eq!(rt; text.as_str(), "true 4 5: [ a=1 ][ a=1 ]");
     Ok(())
 }
