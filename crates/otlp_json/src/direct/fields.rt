@@ -24,8 +24,8 @@ pub(super) fn text(direct: &mut Direct<'_>, depth: u32) -> Result<Text, Bend>
     Ok(text_next(direct.alloc, &mut direct.cursor)?)
 }
 
-/// A text without escapes, where it stands.
-pub(super) fn plain<'a>(direct: &mut Direct<'a>, depth: u32) -> Result<&'a str, Bend>
+// The text without escapes that stands next.
+fn plain<'a>(direct: &mut Direct<'a>, depth: u32) -> Result<&'a str, Bend>
     ensures stands { IfOk result
         (λ text. Stands (plainly text_in) depth direct.old text.now direct.new) }
     ensures shorter { OnOk result (length direct.new.cursor.left < length direct.old.cursor.left) }
@@ -36,7 +36,7 @@ pub(super) fn plain<'a>(direct: &mut Direct<'a>, depth: u32) -> Result<&'a str, 
     Ok(text)
 }
 
-/// A numeral, where it stands.
+/// The numeral that stands next.
 pub(super) fn numeral<'a>(direct: &mut Direct<'a>, depth: u32) -> Result<&'a str, Bend>
     ensures stands { IfOk result
         (λ text. Stands (plainly numeral_in) depth direct.old text.now direct.new) }

@@ -1,9 +1,9 @@
-//! Values of which nothing is read.
+//! Values of which nothing is read: no list and no object is built of them.
 
 ghost use Rattle.std.specs.Prelude.{◌<◌, length, OnOk};
 ghost use Rattle.otlp_json.specs.Direct.{Passes};
 
-use crate::direct::fields::{numeral, plain, word};
+use crate::direct::fields::{numeral, text, word};
 use crate::direct::{Bend, Direct, goes, key, opens};
 
 /// Passes a value of which nothing is read.
@@ -49,14 +49,14 @@ fn pass_list(direct: &mut Direct<'_>, depth: u32) -> Result<(), Bend>
     Ok(())
 }
 
-// Passes a text without escapes, a literal or a number.
+// Passes a text, a literal or a number.
 fn pass_scalar(direct: &mut Direct<'_>, depth: u32) -> Result<(), Bend>
     ensures passes { OnOk result (Passes depth direct.old direct.new) }
     ensures shorter { OnOk result (length direct.new.cursor.left < length direct.old.cursor.left) }
 {
     let next = direct.cursor.peek();
     if next == b'"' {
-        plain(direct, depth)?;
+        text(direct, depth)?;
         return Ok(());
     }
     if next == b't' {

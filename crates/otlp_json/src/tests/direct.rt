@@ -78,7 +78,7 @@ fn records_bend_where_a_member_is_unusual(rt: HostRuntime) -> Result<(), Fail> {
 #[test]
 fn records_bend_where_a_scalar_is_unusual(rt: HostRuntime) -> Result<(), Fail> {
     // Each that bends stands below its like that doesn't.
-    let table: [(&str, bool); 34] = [
+    let table: [(&str, bool); 35] = [
         (r#"{"severityText":""}"#, false),
         (r#"{"severityText":"a\"b\u00e9"}"#, false),
         (r#"{"severityText":"a"b"}"#, true),
@@ -110,7 +110,8 @@ fn records_bend_where_a_scalar_is_unusual(rt: HostRuntime) -> Result<(), Fail> {
             r#"{"x":[{"y":[1,"a",null,true,false,{}]}, [ ] ,{ }]}"#,
             false,
         ),
-        (r#"{"x":[{"y":[1,"\n",null,true,false,{}]}]}"#, true),
+        (r#"{"x":[{"y":[1,"\n",null,true,false,{}]}]}"#, false),
+        (r#"{"x":[{"y":[1,"\q",null,true,false,{}]}]}"#, true),
         (r#"{"x":[{"\u0079":[1,"a",null,true,false,{}]}]}"#, true),
         (r#"{"x":[{"y":[1,"a",nul,true,false,{}]}]}"#, true),
         (r#"{"x":[{"y":[1,"a",null,true,fals,{}]}]}"#, true),

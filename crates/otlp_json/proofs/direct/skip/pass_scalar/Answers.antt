@@ -4,7 +4,7 @@ use Rattle.otlp_json.proofs.Standing.{true-stands, false-stands, null-passes, st
 use Rattle.otlp_json.proofs.direct.skip.pass_scalar.Goals as goal
 
 pub returns-then-next-eq34-clause-passes : goal.returns-then-next-eq34-clause-passes
-returns-then-next-eq34-clause-passes c = stands-passes text_in c.args.depth c.args.direct.now c.plain.new.direct _ c.in_ok-plain.ensures.stands
+returns-then-next-eq34-clause-passes c = stands-passes text_in c.args.depth c.args.direct.now c.text.new.direct _ c.in_ok-text.ensures.stands
 
 pub returns-then-next-eq116-clause-passes : goal.returns-then-next-eq116-clause-passes
 returns-then-next-eq116-clause-passes c =
