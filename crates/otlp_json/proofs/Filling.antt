@@ -7,7 +7,7 @@ use Rattle.otlp_json.specs.declared.counts.Counts.{Counts}
 use Rattle.otlp_json.specs.declared.direct.Direct.{Direct}
 use Rattle.otlp_json.specs.Reads.{Read, Reader, ◌>>=◌}
 use Rattle.otlp_json.specs.Objects.{Row, plain, nested, by_key}
-use Rattle.otlp_json.specs.Direct.{plainly, row_of, IsNext, Stands, Passes, Fills}
+use Rattle.otlp_json.specs.Direct.{plainly, row_of, Stands, Passes, Fills}
 use Rattle.otlp_json.proofs.Once.{key_is, is_row, no_row, by_key-none}
 
 module _ {X F : Type 0} (x : X) (put : X → F → X) (f : F) (n k : Counts) where
@@ -70,23 +70,4 @@ stands-same one other same depth old x new s = record {
   spelled = s.spelled;
   not_null = s.not_null;
   meant = same s.json old.counts ∙ s.meant;
-}
-
--- a value of JSON that is read without counting
-pub json-stands : {X : Type 0} (read : Json → Read X) (depth : ℕ) (old new : Direct) (json : Json) (x : X) → IsNext depth old json new → read json ≡ Ok x → Stands (plainly read) depth old x new
-json-stands read depth old new json x next is = record {
-  json = json;
-  spelled = next.spelled;
-  not_null = next.not_null;
-  meant = rw is (ap (λ (n : Counts). Ok (x, n)) (sym next.counts));
-}
-
--- the same, where it counts
-pub json-counts : {X : Type 0} (read : Reader X) (depth : ℕ) (old mid new : Direct) (json : Json) (x : X) → IsNext depth old json mid → read json mid.counts ≡ Ok (x, new.counts) → new.cursor ≡ mid.cursor
-    → Stands read depth old x new
-json-counts read depth old mid new json x next is same = record {
-  json = json;
-  spelled = next.spelled ∙ ap (λ r. Ok (json, r)) (sym same);
-  not_null = next.not_null;
-  meant = ap (λ (n : Counts). read json n) (sym next.counts) ∙ is;
 }

@@ -19,6 +19,9 @@ pub mod ReadBack
 pub mod Once
 pub mod Passing
 pub mod Filling
+pub mod Scalars
+pub mod Standing
+pub mod Skipping
 pub mod ObjectsPassed
 pub mod OneKind
 pub mod PairValue

@@ -1,6 +1,6 @@
 -- How far a container is read straight from its text: the elements passed, and what they give.
-use Rattle.std.proofs.Common.{◌≡◌, ◌∙◌, ◌⊎◌, inl, inr, ℕ, zero, suc, ◌+◌, ◌-◌, ◌<◌, Bool, true, false, List, [], ◌∷◌, ◌++◌, length, replicate, Option, Some, None, Result, Ok, Err, refl, sym, ap, subst, arith, append-nil}
-use Rattle.std.specs.Prelude.{◌==◌, ◌||◌, IfSome, cond}
+use Rattle.std.proofs.Common.{◌≡◌, ◌∙◌, inl, inr, ℕ, zero, suc, ◌+◌, ◌-◌, ◌<◌, Bool, true, false, List, [], ◌∷◌, ◌++◌, length, replicate, Option, Some, None, Result, Ok, Err, refl, sym, ap, subst, arith, append-nil}
+use Rattle.std.specs.Prelude.{◌==◌, IfSome, cond}
 use Rattle.std.proofs.lemmas.Bool.Decides.{nat_tests}
 use Rattle.json_text.specs.Place.{Rest, head, blanks, past}
 use Rattle.json_text.specs.Kinds.{Member, is_null, as_members, as_items}
@@ -18,7 +18,7 @@ use Rattle.otlp_json.specs.declared.direct.Direct.{Direct}
 use Rattle.otlp_json.specs.Reads.{Read, Reader, ◌>>=◌, each}
 use Rattle.otlp_json.specs.Objects.{Row, by_key, by_row, fields}
 use Rattle.otlp_json.specs.Direct.{Opens, Stands, Fills, Takes, key_of, is_taken}
-use Rattle.otlp_json.proofs.Once.{Marks, Marks-push, NoneNull, NoneNull-push, has_slot, new_key, is_row, IsNew, by_row-none, by_row-last, by_key-none, fields-push}
+use Rattle.otlp_json.proofs.Once.{Marks, Marks-push, NoneNull, NoneNull-push, has_slot, new_key, is_row, by_row-none, by_row-last, by_key-none, fields-push}
 
 -- Elements.
 

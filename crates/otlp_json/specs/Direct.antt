@@ -38,12 +38,6 @@ pub record Stands {X : Type 0} (one : Reader X) (depth : ℕ) (old : Direct) (x 
   pub not_null : is_null json ≡ false
   pub meant : one json old.counts ≡ Ok (x, new.counts)
 
--- this value stands next, which isn't null
-pub record IsNext (depth : ℕ) (old : Direct) (json : Json) (new : Direct) : Type 0 where
-  pub spelled : value depth old.cursor ≡ Ok (json, new.cursor)
-  pub not_null : is_null json ≡ false
-  pub counts : new.counts ≡ old.counts
-
 -- a value stands next of which nothing is read
 pub record Passes (depth : ℕ) (old new : Direct) : Type 0 where
   pub json : Json

@@ -7,17 +7,18 @@ ghost use Rattle.json_text.specs.Place.{blanks};
 ghost use Rattle.json_text.specs.Reading.{comma_or, document};
 ghost use Rattle.otlp_json.specs.Limits.{most_containers};
 ghost use Rattle.otlp_json.specs.Payload.{payload_of};
-ghost use Rattle.otlp_json.specs.Direct.{key_of, IsNext, Opens, Passes, Takes};
+ghost use Rattle.otlp_json.specs.Direct.{key_of, Opens, Takes};
 
 use crate::counts::Counts;
 use crate::direct::trees::batch;
 use crate::error::PayloadStop;
 use crate::reading::CONTAINERS;
-use json_text::{Cursor, Json, JsonFault, goes_on, is_closed, value_of};
+use json_text::{Cursor, JsonFault, goes_on, is_closed};
 use pdata_tree::Batch;
 use std::alloc::{AllocError, Global};
 
 mod fields;
+mod skip;
 mod trees;
 mod values;
 
@@ -146,27 +147,6 @@ pub(crate) fn same(key: &str, word: &str) -> bool
     ensures { result ≡ bytes_eq key.now word.now }
 {
     key == word
-}
-
-/// Passes a value of which nothing is read.
-pub(crate) fn pass(direct: &mut Direct<'_>, depth: u32) -> Result<(), Bend>
-    ensures passes { OnOk result (Passes depth direct.old direct.new) }
-    ensures shorter { OnOk result (length direct.new.cursor.left < length direct.old.cursor.left) }
-{
-    drop(value_of(direct.alloc, &mut direct.cursor, depth)?);
-    Ok(())
-}
-
-/// The value that stands next, which isn't null.
-pub(crate) fn json(direct: &mut Direct<'_>, depth: u32) -> Result<Json, Bend>
-    ensures next { IfOk result (λ json. IsNext depth direct.old json direct.new) }
-    ensures shorter { OnOk result (length direct.new.cursor.left < length direct.old.cursor.left) }
-{
-    let json = value_of(direct.alloc, &mut direct.cursor, depth)?;
-    if json.is_null() {
-        return Err(Bend::Unusual);
-    }
-    Ok(json)
 }
 
 /// The payload that the text of a line is.

@@ -142,8 +142,8 @@ pub(crate) fn i32_of(json: &Json) -> Result<i32, PayloadStop>
     )
 }
 
-// The bytes of an id; none are spelled where it is the empty one.
-fn id_bytes<const N: usize>(text: &str) -> Option<[u8; N]>
+/// The bytes of an id; none are spelled where it is the empty one.
+pub(crate) fn id_bytes<const N: usize>(text: &str) -> Option<[u8; N]>
     ensures { result ≡ spec.id_bytes N text.now }
 {
     if text.is_empty() {

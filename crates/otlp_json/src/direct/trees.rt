@@ -9,8 +9,9 @@ ghost use Rattle.otlp_json.specs.Direct.{row_of, Fills, Stands};
 
 use crate::counts::{count_holder, count_record};
 use crate::direct::fields::{i32_next, id, text, u32_next, u64_next};
+use crate::direct::skip::pass;
 use crate::direct::values::{pairs, value};
-use crate::direct::{Bend, Direct, SLOTS, goes, key, opens, pass, same, take};
+use crate::direct::{Bend, Direct, SLOTS, goes, key, opens, same, take};
 use crate::record::empty_record;
 use crate::resource::{empty_resource, empty_resource_logs, put_resource};
 use crate::scope::{empty_scope, empty_scope_logs, put_scope};

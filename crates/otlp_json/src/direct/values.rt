@@ -7,7 +7,8 @@ ghost use Rattle.otlp_json.specs.Direct.{kind_slot, row_of, Fills, Stands};
 
 use crate::counts::count_value;
 use crate::direct::fields::{bytes, double, i64_next, text, truth};
-use crate::direct::{Bend, Direct, SLOTS, goes, key, opens, pass, same, take};
+use crate::direct::skip::pass;
+use crate::direct::{Bend, Direct, SLOTS, goes, key, opens, same, take};
 use item_list::ItemList;
 use pdata_value::{Pairs, Text, Value, Values};
 

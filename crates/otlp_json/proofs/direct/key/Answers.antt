@@ -1,4 +1,4 @@
-use Rattle.std.proofs.Common.{◌≡◌, ◌∙◌, Ok, ap, sym}
+use Rattle.std.proofs.Common.{◌∙◌, Ok, ap, sym}
 use Rattle.json_text.specs.Place.{Rest}
 use Rattle.json_text.proofs.Values.{quoted-closed}
 use Rattle.otlp_json.proofs.Passing.{this-passed, key-passed}

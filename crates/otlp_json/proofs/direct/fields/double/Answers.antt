@@ -1,6 +1,6 @@
-use Rattle.otlp_json.specs.Fields.{double_in}
-use Rattle.otlp_json.proofs.Filling.{json-stands}
+use Rattle.otlp_json.proofs.Standing.{double-by-numeral}
 use Rattle.otlp_json.proofs.direct.fields.double.Goals as goal
 
 pub returns-clause-stands : goal.returns-clause-stands
-returns-clause-stands c = json-stands double_in c.args.depth c.args.direct.now c.json.new.direct c.in_ok-json.json _ c.in_ok-json.ensures.next c.in_ok-double_of.ensures
+returns-clause-stands c =
+    rw (c.from_text.ensures, c.in_ok-from_str.ensures) (double-by-numeral c.args.depth c.args.direct.now c.numeral.new.direct c.in_ok-spelled.spelled.now c.in_ok-spelled.ensures.stands)

@@ -1,11 +1,11 @@
-use Rattle.std.proofs.Common.{◌≡◌, rules, to_z-of_z, SFits, w64, to_z, of_z}
-use Rattle.otlp_json.specs.Fields.{i64_in}
-use Rattle.otlp_json.proofs.Filling.{json-stands}
+use Rattle.std.proofs.Common.{◌^◌}
+use Rattle.otlp_json.specs.declared.error.PayloadKind.TheVariants.{BadNumber}
+use Rattle.otlp_json.specs.Fields.{spelled_in, i64_in, around, whole}
+use Rattle.otlp_json.proofs.Standing.{given-stands}
 use Rattle.otlp_json.proofs.direct.fields.i64_next.Goals as goal
 
 pub returns-clause-stands : goal.returns-clause-stands
+unfolding i64_in
 returns-clause-stands c =
-    let n = c.in_ok-i64_of.field-0 in
-    let fits : SFits w64 n = search rules in
-    let same : to_z w64 (of_z w64 n) ≡ n = to_z-of_z fits in
-    rw same (json-stands i64_in c.args.depth c.args.direct.now c.json.new.direct c.in_ok-json.json n c.in_ok-json.ensures.next c.in_ok-i64_of.ensures)
+    given-stands BadNumber spelled_in (λ t. around (2 ^ 63) (whole t)) c.args.depth c.args.direct.now c.spelled.new.direct c.in_ok-spelled.spelled.now c.given.result
+    (rw c.signed_of.ensures at c.given.ensures) c.in_ok-spelled.ensures.stands

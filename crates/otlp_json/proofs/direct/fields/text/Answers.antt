@@ -1,6 +1,6 @@
-use Rattle.otlp_json.specs.Fields.{text_in}
-use Rattle.otlp_json.proofs.Filling.{json-stands}
+use Rattle.std.proofs.Common.{refl}
+use Rattle.otlp_json.proofs.Standing.{text-stands}
 use Rattle.otlp_json.proofs.direct.fields.text.Goals as goal
 
 pub returns-clause-stands : goal.returns-clause-stands
-returns-clause-stands c = json-stands text_in c.args.depth c.args.direct.now c.json.new.direct c.in_ok-json.json _ c.in_ok-json.ensures.next c.in_ok-text_of.ensures
+returns-clause-stands c = text-stands c.args.depth c.args.direct.now _ refl _ c.in_ok-text.ensures.gives

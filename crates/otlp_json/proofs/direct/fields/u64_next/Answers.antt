@@ -1,6 +1,11 @@
-use Rattle.otlp_json.specs.Fields.{u64_in}
-use Rattle.otlp_json.proofs.Filling.{json-stands}
+use Rattle.std.proofs.Common.{◌^◌}
+use Rattle.otlp_json.specs.declared.error.PayloadKind.TheVariants.{BadNumber}
+use Rattle.otlp_json.specs.Fields.{spelled_in, u64_in, below, whole}
+use Rattle.otlp_json.proofs.Standing.{given-stands}
 use Rattle.otlp_json.proofs.direct.fields.u64_next.Goals as goal
 
 pub returns-clause-stands : goal.returns-clause-stands
-returns-clause-stands c = json-stands u64_in c.args.depth c.args.direct.now c.json.new.direct c.in_ok-json.json _ c.in_ok-json.ensures.next c.in_ok-u64_of.ensures
+unfolding u64_in
+returns-clause-stands c =
+    given-stands BadNumber spelled_in (λ t. below (2 ^ 64) (whole t)) c.args.depth c.args.direct.now c.spelled.new.direct c.in_ok-spelled.spelled.now c.given.result
+    (rw c.unsigned_of.ensures at c.given.ensures) c.in_ok-spelled.ensures.stands
