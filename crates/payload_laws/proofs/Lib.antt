@@ -1,0 +1,4 @@
+mod Seams
+mod TextUtf8
+mod JsonWritable
+mod ReadUtf8
