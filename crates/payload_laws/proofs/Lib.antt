@@ -2,3 +2,4 @@ mod Seams
 mod TextUtf8
 mod JsonWritable
 mod ReadUtf8
+mod DecodedBytes
