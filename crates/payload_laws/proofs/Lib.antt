@@ -3,3 +3,8 @@ mod TextUtf8
 mod JsonWritable
 mod ReadUtf8
 mod DecodedBytes
+mod ReadJson
+mod ReadFields
+mod ReadObjects
+mod ReadValues
+mod ReadTrees

@@ -1,13 +1,18 @@
 //! Laws on what is read.
 
 ghost use Rattle.std.specs.Prelude.{◌≡◌, ℕ, List, Ok};
+ghost use Rattle.pdata_tree.specs.declared.batch.Batch.{Batch};
 ghost use Rattle.json_text.specs.Placed.{placed};
 ghost use Rattle.json_text.specs.Reading.{json_text};
 ghost use Rattle.json_text.specs.Writing.{text_of};
 ghost use Rattle.json_text.specs.declared.json.Json.{Json};
+ghost use Rattle.otlp_json.specs.Line.{line};
+ghost use Rattle.otlp_json.specs.Payload.{payload};
+ghost use Rattle.otlp_json.specs.WellFormed.{IsPayload};
 ghost use Rattle.payload_laws.specs.Writable.{IsWritable};
 
 use json_text::{spelled_value_is_read, written_is_read};
+use otlp_json::lines_read_back;
 
 /// Each value of JSON that is read is one that can be written and read again.
 pub fn read_json_can_be_written()
@@ -20,4 +25,15 @@ pub fn read_json_can_be_written()
 {
     spelled_value_is_read();
     written_is_read();
+}
+
+/// Each payload that is read is one that can be written and read again.
+pub fn read_payloads_can_be_written()
+    ensures writable { (text : List ℕ) (batch : Batch) → payload text ≡ Ok batch → IsPayload batch }
+
+    // It is read again as the same tree.
+    ensures again { (text : List ℕ) (batch : Batch) → payload text ≡ Ok batch → payload (line batch) ≡ Ok batch }
+{
+    read_json_can_be_written();
+    lines_read_back();
 }

@@ -3,7 +3,7 @@
 
 mod laws;
 
-pub use laws::read_json_can_be_written;
+pub use laws::{read_json_can_be_written, read_payloads_can_be_written};
 
 #[cfg(test)]
 mod tests;
