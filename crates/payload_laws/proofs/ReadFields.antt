@@ -1,5 +1,5 @@
 -- What fields are read as.
-use Rattle.std.proofs.Common.{◌≡◌, ◌∙◌, ℕ, ℤ, ◌<◌, ◌^◌, pos, negsuc, Bool, true, false, List, [], ◌∷◌, Option, Some, None, Ok, Err, nat_lt, cond, inl, refl, sym, ap, subst, arith, w32, w64}
+use Rattle.std.proofs.Common.{◌≡◌, ◌∙◌, ℕ, ℤ, ◌<◌, ◌^◌, pos, negsuc, Bool, true, false, List, [], ◌∷◌, Option, Some, None, Ok, nat_lt, cond, inl, refl, ap, subst, arith, w32, w64}
 use Rattle.std.specs.Int.RustNames.{FitsSigned}
 use Rattle.std.specs.Str.{IsUtf8}
 use Rattle.std.proofs.lemmas.Bool.Decides.{nat_tests}
@@ -11,7 +11,7 @@ use Rattle.hex.specs.Hex.{IsBytes}
 use Rattle.pdata_value.specs.Numeral.{IsSpelling}
 use Rattle.pdata_value.specs.Scan.{is_spelling}
 use Rattle.pdata_value.proofs.Numerals.{is_spelled}
-use Rattle.json_text.specs.Kinds.{Member, as_text, as_number, as_items, as_members}
+use Rattle.json_text.specs.Kinds.{as_text, as_number, as_items, as_members}
 use Rattle.json_text.specs.declared.json.Json.{Json}
 use Rattle.otlp_json.specs.declared.error.PayloadKind.{PayloadKind}
 use Rattle.otlp_json.specs.declared.error.PayloadKind.TheVariants.{WrongKind, BadNumber, BadId, BadBase64}

@@ -1,5 +1,5 @@
 -- Properties that hold of what is read, through tables and lists.
-use Rattle.std.proofs.Common.{◌≡◌, Bool, true, false, ℕ, List, [], ◌∷◌, ◌++◌, Ok, refl, subst}
+use Rattle.std.proofs.Common.{◌≡◌, Bool, true, false, ℕ, List, [], ◌∷◌, ◌++◌, Ok, subst}
 use Rattle.std.specs.Prelude.{◌&&◌, cond}
 use Rattle.std.specs.List.{All}
 use Rattle.std.specs.Str.{bytes_eq}
@@ -7,13 +7,21 @@ use Rattle.std.proofs.lemmas.List.Elements.{All-nil, All-push}
 use Rattle.json_text.specs.Kinds.{Member}
 use Rattle.json_text.specs.Members.{stands}
 use Rattle.json_text.specs.declared.json.Json.{Json}
-use Rattle.otlp_json.specs.declared.counts.Counts.{Counts}
-use Rattle.otlp_json.specs.Reads.{Read, Reader, ◌>>=◌, each}
+use Rattle.otlp_json.specs.Reads.{Read, Reader, each}
 use Rattle.otlp_json.specs.Fields.{items_in, members_in}
+use Rattle.otlp_json.specs.Limits.{none_counted}
 use Rattle.otlp_json.specs.Objects.{Row, plain, nested, by_key, by_row, fields, object, list}
 use Rattle.otlp_json.proofs.Measured.{first_read, pair_is}
 use Rattle.payload_laws.proofs.ReadJson.{Good, GoodItems, GoodMembers}
 use Rattle.payload_laws.proofs.ReadFields.{FieldGives, items-give, members-give}
+
+-- the type of a thing
+abbrev type_of : {A : Type 0} → A → Type 0
+type_of {A} x = A
+
+-- what is counted while a payload is read
+abbrev pub Counts : Type 0
+Counts = type_of none_counted
 
 -- what is read of a good value has this property
 abbrev pub Gives : {X : Type 0} → (X → Type 0) → Reader X → Type 0

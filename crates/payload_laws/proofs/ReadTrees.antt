@@ -1,5 +1,5 @@
 -- Trees that are read are payloads that can be written.
-use Rattle.std.proofs.Common.{◌≡◌, ◌∙◌, ℕ, ◌<◌, ◌^◌, List, [], ◌∷◌, Result, Ok, Err, refl, subst, arith, pos, w32}
+use Rattle.std.proofs.Common.{◌≡◌, ℕ, ◌<◌, ◌^◌, List, [], Result, Ok, Err, refl, subst, arith, w32}
 use Rattle.std.specs.Prelude.{codes}
 use Rattle.std.specs.Int.RustNames.{FitsSigned}
 use Rattle.std.specs.List.{All}
@@ -7,20 +7,16 @@ use Rattle.std.specs.Str.{IsUtf8}
 use Rattle.std.proofs.lemmas.Int.{ints}
 use Rattle.std.proofs.lemmas.List.Elements.{All-nil}
 use Rattle.std.proofs.lemmas.Str.{IsUtf8-nil}
-use Rattle.pdata_value.specs.declared.pairs.Pairs.{Pairs}
 use Rattle.pdata_tree.specs.declared.batch.Batch.{Batch}
-use Rattle.pdata_tree.specs.declared.resource.ResourceNode.{ResourceNode}
 use Rattle.pdata_tree.specs.declared.resource.ResourceTree.{ResourceTree}
-use Rattle.pdata_tree.specs.declared.scope.ScopeNode.{ScopeNode}
 use Rattle.pdata_tree.specs.declared.scope.ScopeTree.{ScopeTree}
 use Rattle.pdata_tree.specs.declared.record.LogRecord.{LogRecord}
 use Rattle.json_text.specs.Kinds.{Member, as_members}
 use Rattle.json_text.specs.Reading.{json_text}
 use Rattle.json_text.specs.declared.json.Json.{Json}
 use Rattle.json_text.specs.declared.error.JsonFault.{JsonFault}
-use Rattle.otlp_json.specs.declared.counts.Counts.{Counts}
 use Rattle.otlp_json.specs.declared.error.PayloadKind.TheVariants.{NotObject}
-use Rattle.otlp_json.specs.Reads.{Read, ◌>>=◌, or_wrong}
+use Rattle.otlp_json.specs.Reads.{or_wrong}
 use Rattle.otlp_json.specs.Fields.{text_in, u64_in, u32_in, i32_in, id_in}
 use Rattle.otlp_json.specs.Limits.{most_containers, most_levels, none_counted, one_record, one_holder}
 use Rattle.otlp_json.specs.Objects.{fields, object}
@@ -33,7 +29,7 @@ use Rattle.otlp_json.proofs.TreesMeasured.{payload-within}
 use Rattle.payload_laws.proofs.DecodedBytes.{zero_bytes}
 use Rattle.payload_laws.proofs.ReadJson.{Good, members_good}
 use Rattle.payload_laws.proofs.ReadFields.{found, text-gives, u64-gives, u32-gives, i32-gives, id-gives}
-use Rattle.payload_laws.proofs.ReadObjects.{Gives, TableKeeps, plain-keeps, nested-keeps, fields-keep, object-gives, list-gives}
+use Rattle.payload_laws.proofs.ReadObjects.{Counts, Gives, TableKeeps, plain-keeps, nested-keeps, fields-keep, object-gives, list-gives}
 use Rattle.payload_laws.proofs.ReadValues.{IsPair, empty-is, pairs-give, value-gives}
 
 -- Records.
@@ -49,16 +45,34 @@ record_table-keeps : TableKeeps IsRecord record_table
 unfolding record_table
 record_table-keeps = (
   plain-keeps IsRecord (λ n. n < 2 ^ 64) (codes "timeUnixNano") u64_in (λ log x. record log { time = x }) u64-gives (λ log x h q. record { time = q; observed = h.observed; severity = h.severity; severity_text = h.severity_text; body = h.body; attributes = h.attributes; dropped = h.dropped; flags = h.flags; trace_id = h.trace_id; span_id = h.span_id }),
-  (  plain-keeps IsRecord (λ n. n < 2 ^ 64) (codes "observedTimeUnixNano") u64_in (λ log x. record log { observed = x }) u64-gives (λ log x h q. record { time = h.time; observed = q; severity = h.severity; severity_text = h.severity_text; body = h.body; attributes = h.attributes; dropped = h.dropped; flags = h.flags; trace_id = h.trace_id; span_id = h.span_id }),
-  (  plain-keeps IsRecord (FitsSigned w32) (codes "severityNumber") i32_in (λ log x. record log { severity = x }) i32-gives (λ log x h q. record { time = h.time; observed = h.observed; severity = q; severity_text = h.severity_text; body = h.body; attributes = h.attributes; dropped = h.dropped; flags = h.flags; trace_id = h.trace_id; span_id = h.span_id }),
-  (  plain-keeps IsRecord IsUtf8 (codes "severityText") text_in (λ log x. record log { severity_text = x }) text-gives (λ log x h q. record { time = h.time; observed = h.observed; severity = h.severity; severity_text = q; body = h.body; attributes = h.attributes; dropped = h.dropped; flags = h.flags; trace_id = h.trace_id; span_id = h.span_id }),
-  (  nested-keeps IsRecord (IsValue most_levels) (codes "body") (value_in most_levels) (λ log x. record log { body = x }) (value-gives most_levels) (λ log x h q. record { time = h.time; observed = h.observed; severity = h.severity; severity_text = h.severity_text; body = q; attributes = h.attributes; dropped = h.dropped; flags = h.flags; trace_id = h.trace_id; span_id = h.span_id }),
-  (  nested-keeps IsRecord IsAttributes (codes "attributes") (pairs_in most_levels) (λ log x. record log { attributes = x }) attributes-give (λ log x h q. record { time = h.time; observed = h.observed; severity = h.severity; severity_text = h.severity_text; body = h.body; attributes = q; dropped = h.dropped; flags = h.flags; trace_id = h.trace_id; span_id = h.span_id }),
-  (  plain-keeps IsRecord (λ n. n < 2 ^ 32) (codes "droppedAttributesCount") u32_in (λ log x. record log { dropped = x }) u32-gives (λ log x h q. record { time = h.time; observed = h.observed; severity = h.severity; severity_text = h.severity_text; body = h.body; attributes = h.attributes; dropped = q; flags = h.flags; trace_id = h.trace_id; span_id = h.span_id }),
-  (  plain-keeps IsRecord (λ n. n < 2 ^ 32) (codes "flags") u32_in (λ log x. record log { flags = x }) u32-gives (λ log x h q. record { time = h.time; observed = h.observed; severity = h.severity; severity_text = h.severity_text; body = h.body; attributes = h.attributes; dropped = h.dropped; flags = q; trace_id = h.trace_id; span_id = h.span_id }),
-  (  plain-keeps IsRecord (IsId 16) (codes "traceId") (id_in 16) (λ log x. record log { trace_id = x }) (id-gives 16) (λ log x h q. record { time = h.time; observed = h.observed; severity = h.severity; severity_text = h.severity_text; body = h.body; attributes = h.attributes; dropped = h.dropped; flags = h.flags; trace_id = q; span_id = h.span_id }),
-  (  plain-keeps IsRecord (IsId 8) (codes "spanId") (id_in 8) (λ log x. record log { span_id = x }) (id-gives 8) (λ log x h q. record { time = h.time; observed = h.observed; severity = h.severity; severity_text = h.severity_text; body = h.body; attributes = h.attributes; dropped = h.dropped; flags = h.flags; trace_id = h.trace_id; span_id = q }),
-  tt))))))))),
+  (
+    plain-keeps IsRecord (λ n. n < 2 ^ 64) (codes "observedTimeUnixNano") u64_in (λ log x. record log { observed = x }) u64-gives (λ log x h q. record { time = h.time; observed = q; severity = h.severity; severity_text = h.severity_text; body = h.body; attributes = h.attributes; dropped = h.dropped; flags = h.flags; trace_id = h.trace_id; span_id = h.span_id }),
+    (
+      plain-keeps IsRecord (FitsSigned w32) (codes "severityNumber") i32_in (λ log x. record log { severity = x }) i32-gives (λ log x h q. record { time = h.time; observed = h.observed; severity = q; severity_text = h.severity_text; body = h.body; attributes = h.attributes; dropped = h.dropped; flags = h.flags; trace_id = h.trace_id; span_id = h.span_id }),
+      (
+        plain-keeps IsRecord IsUtf8 (codes "severityText") text_in (λ log x. record log { severity_text = x }) text-gives (λ log x h q. record { time = h.time; observed = h.observed; severity = h.severity; severity_text = q; body = h.body; attributes = h.attributes; dropped = h.dropped; flags = h.flags; trace_id = h.trace_id; span_id = h.span_id }),
+        (
+          nested-keeps IsRecord (IsValue most_levels) (codes "body") (value_in most_levels) (λ log x. record log { body = x }) (value-gives most_levels) (λ log x h q. record { time = h.time; observed = h.observed; severity = h.severity; severity_text = h.severity_text; body = q; attributes = h.attributes; dropped = h.dropped; flags = h.flags; trace_id = h.trace_id; span_id = h.span_id }),
+          (
+            nested-keeps IsRecord IsAttributes (codes "attributes") (pairs_in most_levels) (λ log x. record log { attributes = x }) attributes-give (λ log x h q. record { time = h.time; observed = h.observed; severity = h.severity; severity_text = h.severity_text; body = h.body; attributes = q; dropped = h.dropped; flags = h.flags; trace_id = h.trace_id; span_id = h.span_id }),
+            (
+              plain-keeps IsRecord (λ n. n < 2 ^ 32) (codes "droppedAttributesCount") u32_in (λ log x. record log { dropped = x }) u32-gives (λ log x h q. record { time = h.time; observed = h.observed; severity = h.severity; severity_text = h.severity_text; body = h.body; attributes = h.attributes; dropped = q; flags = h.flags; trace_id = h.trace_id; span_id = h.span_id }),
+              (
+                plain-keeps IsRecord (λ n. n < 2 ^ 32) (codes "flags") u32_in (λ log x. record log { flags = x }) u32-gives (λ log x h q. record { time = h.time; observed = h.observed; severity = h.severity; severity_text = h.severity_text; body = h.body; attributes = h.attributes; dropped = h.dropped; flags = q; trace_id = h.trace_id; span_id = h.span_id }),
+                (
+                  plain-keeps IsRecord (IsId 16) (codes "traceId") (id_in 16) (λ log x. record log { trace_id = x }) (id-gives 16) (λ log x h q. record { time = h.time; observed = h.observed; severity = h.severity; severity_text = h.severity_text; body = h.body; attributes = h.attributes; dropped = h.dropped; flags = h.flags; trace_id = q; span_id = h.span_id }),
+                  (
+                    plain-keeps IsRecord (IsId 8) (codes "spanId") (id_in 8) (λ log x. record log { span_id = x }) (id-gives 8) (λ log x h q. record { time = h.time; observed = h.observed; severity = h.severity; severity_text = h.severity_text; body = h.body; attributes = h.attributes; dropped = h.dropped; flags = h.flags; trace_id = h.trace_id; span_id = q }),
+                    tt,
+                  ),
+                ),
+              ),
+            ),
+          ),
+        ),
+      ),
+    ),
+  ),
 )
 
 empty_record-is : IsRecord empty_record

@@ -1,5 +1,5 @@
 -- Values and pairs that are read are those that a payload may hold.
-use Rattle.std.proofs.Common.{◌≡◌, ◌∙◌, ◌⊎◌, inl, inr, ℕ, ℤ, zero, suc, Bool, true, false, List, [], ◌∷◌, Option, Some, None, Ok, Err, refl, sym, subst, w64}
+use Rattle.std.proofs.Common.{◌≡◌, ◌⊎◌, inl, inr, ℕ, ℤ, zero, suc, Bool, true, false, List, [], ◌∷◌, Option, Some, None, Ok, refl, sym, subst, w64}
 use Rattle.std.specs.Prelude.{◌&&◌, ◌||◌, cond, codes}
 use Rattle.std.specs.Int.RustNames.{FitsSigned}
 use Rattle.std.specs.List.{All}
@@ -16,7 +16,6 @@ use Rattle.pdata_value.specs.declared.pairs.Pairs.{Pairs}
 use Rattle.json_text.specs.Kinds.{Member}
 use Rattle.json_text.specs.Members.{stands, has_standing, last_standing}
 use Rattle.json_text.specs.declared.json.Json.{Json}
-use Rattle.otlp_json.specs.declared.counts.Counts.{Counts}
 use Rattle.otlp_json.specs.Reads.{Read, Reader, ◌>>=◌, each}
 use Rattle.otlp_json.specs.Fields.{text_in, truth_in, i64_in, double_in, bytes_in, items_in, members_in}
 use Rattle.otlp_json.specs.Limits.{one_value, level}
@@ -27,7 +26,7 @@ use Rattle.otlp_json.proofs.Measured.{first_read, pair_is}
 use Rattle.otlp_json.proofs.Once.{key_is}
 use Rattle.payload_laws.proofs.ReadJson.{Good, GoodMembers}
 use Rattle.payload_laws.proofs.ReadFields.{FieldGives, text-gives, i64-gives, double-gives, bytes-give, items-give, members-give}
-use Rattle.payload_laws.proofs.ReadObjects.{Gives, TableKeeps, plain-keeps, nested-keeps, key-keeps, fields-keep, object-gives, all-give}
+use Rattle.payload_laws.proofs.ReadObjects.{Counts, Gives, TableKeeps, plain-keeps, nested-keeps, key-keeps, fields-keep, object-gives, all-give}
 
 -- By their kinds.
 module _ (levels : ℕ) where
@@ -223,10 +222,10 @@ module _ (levels : ℕ) (value : Reader Value) (gives : Gives (IsValue levels) v
   last-good is_known found [] here good = here
   last-good is_known found (m ∷ ms) here good =
       by (is_known m.0 && stands m ms) (last-good is_known (Some m) ms good.0 good.1) (last-good is_known found ms here good.1) where
-    by : (t : Bool) → GoodOption (last_standing is_known (Some m) ms) → GoodOption (last_standing is_known found ms)
-        → GoodOption (cond t (last_standing is_known (Some m) ms) (last_standing is_known found ms))
-    by true one other = one
-    by false one other = other
+        by : (t : Bool) → GoodOption (last_standing is_known (Some m) ms) → GoodOption (last_standing is_known found ms)
+            → GoodOption (cond t (last_standing is_known (Some m) ms) (last_standing is_known found ms))
+        by true one other = one
+        by false one other = other
 
   only-is : (o : Option Member) (n : Counts) (v : Value) (m : Counts) → GoodOption o → only (value_table levels value) o n ≡ Ok (v, m) → Deep v
   only-is None n v m good is = subst Deep (pair_is {X = Value} values.Empty v n m is).0 (empty-is levels)

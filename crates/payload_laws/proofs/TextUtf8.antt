@@ -1,15 +1,14 @@
 -- A text that UTF-8 spells is UTF-8.
-use Rattle.std.proofs.Common.{◌≡◌, ◌∙◌, ℕ, ◌+◌, ◌*◌, ◌<◌, Bool, true, false, List, [], ◌∷◌, ◌++◌, Option, Some, None, refl, sym, ap, subst, arith, cond, append_assoc}
-use Rattle.std.specs.Prelude.{◌&&◌, nat_lt, nat_le, codes}
+use Rattle.std.proofs.Common.{◌≡◌, ℕ, ◌+◌, ◌*◌, ◌<◌, Bool, true, false, List, [], ◌∷◌, ◌++◌, Option, Some, None, refl, sym, subst, arith, cond, append_assoc}
+use Rattle.std.specs.Prelude.{◌&&◌, nat_lt, nat_le}
 use Rattle.std.specs.Char.{digit_value, encode_utf8, IsScalar}
-use Rattle.std.specs.Char.Utf16.{is_high_surrogate, is_low_surrogate, lone_unit_char, surrogate_pair_char}
+use Rattle.std.specs.Char.Utf16.{is_high_surrogate, is_low_surrogate, surrogate_pair_char}
 use Rattle.std.specs.Str.{IsUtf8}
 use Rattle.std.proofs.lemmas.Bool.Decides.{nat_tests}
-use Rattle.std.proofs.lemmas.List.{append-nil}
 use Rattle.std.proofs.lemmas.Str.{IsUtf8-append, IsUtf8-encode}
 use Rattle.json_text.specs.Spelling as spelling
 use Rattle.json_text.specs.Spelling.{ShortEscape, IsHex, SpellsUnit, SpellsEscape, SpellsPiece, SpellsPieces, SpellsText}
-use Rattle.payload_laws.proofs.Seams.{AllLow, before_byte, after_byte, after_low, before_low}
+use Rattle.payload_laws.proofs.Seams.{AllLow, before_byte, after_byte, after_low}
 
 -- Escapes.
 
@@ -85,7 +84,7 @@ escaped _ _ (spelling.pair first second high low (spelling.unit a b c d hex_a he
       );
       scalar =
           pair_scalar (code_of (digit_value a) (digit_value b) (digit_value c) (digit_value d)) (code_of (digit_value e) (digit_value f) (digit_value g) (digit_value h))
-              is_high is_low;
+          is_high is_low;
     }
 
 -- Pieces. Bytes that stand for themselves may be part of a character, so what stands before the pieces is kept.
