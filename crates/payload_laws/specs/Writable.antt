@@ -7,7 +7,7 @@ use Rattle.json_text.specs.Placed.{containers}
 use Rattle.json_text.specs.Writing.{numbers_of, texts_of}
 use Rattle.json_text.specs.declared.json.Json.{Json}
 
--- lists and objects nest no deeper than the number, numbers are numerals, and texts and keys are UTF-8
+-- lists and objects nest at most so deep, numbers are numerals, and texts and keys are UTF-8
 pub record IsWritable (depth : ℕ) (json : Json) : Type 0 where
   pub nesting : containers json ≤ depth
   pub numerals : All IsNumeral (numbers_of json)

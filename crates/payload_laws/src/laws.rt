@@ -21,7 +21,8 @@ pub fn read_json_can_be_written()
 
     // It is read again as the same value, with the places of the new text.
     ensures again { (bytes : List ℕ) (depth : ℕ) (value : Json)
-        → json_text bytes depth ≡ Ok value → json_text (text_of value) depth ≡ Ok (placed 0 value) }
+        → json_text bytes depth ≡ Ok value
+        → json_text (text_of value) depth ≡ Ok (placed 0 value) }
 {
     spelled_value_is_read();
     written_is_read();
@@ -29,10 +30,12 @@ pub fn read_json_can_be_written()
 
 /// Each payload that is read is one that can be written and read again.
 pub fn read_payloads_can_be_written()
-    ensures writable { (text : List ℕ) (batch : Batch) → payload text ≡ Ok batch → IsPayload batch }
+    ensures writable { (text : List ℕ) (batch : Batch)
+        → payload text ≡ Ok batch → IsPayload batch }
 
     // It is read again as the same tree.
-    ensures again { (text : List ℕ) (batch : Batch) → payload text ≡ Ok batch → payload (line batch) ≡ Ok batch }
+    ensures again { (text : List ℕ) (batch : Batch)
+        → payload text ≡ Ok batch → payload (line batch) ≡ Ok batch }
 {
     read_json_can_be_written();
     lines_read_back();

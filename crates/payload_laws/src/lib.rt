@@ -1,4 +1,4 @@
-//! What is read can be written and read again: laws on payloads and on the JSON that they are written in.
+//! Laws on payloads and on JSON: what is read can be written and read again.
 #![tactic(auto)]
 
 mod laws;

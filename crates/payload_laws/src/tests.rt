@@ -1,4 +1,4 @@
-//! The laws can be called, and a payload of every kind of field comes back.
+//! The laws can be called, and a payload comes back.
 
 use crate::{read_json_can_be_written, read_payloads_can_be_written};
 use otlp_json::{read_payload, write_line};
