@@ -1,0 +1,10 @@
+mod Seams
+mod TextUtf8
+mod JsonWritable
+mod ReadUtf8
+mod DecodedBytes
+mod ReadJson
+mod ReadFields
+mod ReadObjects
+mod ReadValues
+mod ReadTrees

@@ -1,0 +1,2 @@
+-- Values of JSON that can be written and read again.
+pub mod Writable
