@@ -15,7 +15,7 @@ mod value;
 mod writing;
 
 pub use error::{PayloadFault, PayloadKind, PayloadStop};
-pub use laws::{cut_lines_are_refused, lines_read_back};
+pub use laws::{cut_lines_are_refused, lines_read_back, payloads_are_within_limits};
 pub use reading::read_payload;
 pub use writing::{push_line, write_line};
 

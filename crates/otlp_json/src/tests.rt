@@ -3,7 +3,8 @@
 mod direct;
 
 use crate::{
-    PayloadStop, cut_lines_are_refused, lines_read_back, push_line, read_payload, write_line,
+    PayloadStop, cut_lines_are_refused, lines_read_back, payloads_are_within_limits, push_line,
+    read_payload, write_line,
 };
 use std::alloc::{AllocError, Global};
 use std::process::Abort;
@@ -348,6 +349,7 @@ fn values_nest_sixty_four_deep(rt: HostRuntime) -> Result<(), Fail> {
 fn a_line_is_pushed_behind_what_stands(rt: HostRuntime) -> Result<(), Fail> {
     lines_read_back();
     cut_lines_are_refused();
+    payloads_are_within_limits();
     let batch = read_payload(rt.alloc(), b"{}")?;
     let mut out = b"x\n".to_vec(rt.alloc())?;
     push_line(&mut out, &batch)?;
