@@ -1,0 +1,4 @@
+pub mod Runs
+pub mod Factored
+pub mod Parts
+pub mod Constructs

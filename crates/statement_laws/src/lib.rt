@@ -1,0 +1,2 @@
+//! Laws on statements and conditions that are parsed.
+#![tactic(auto)]
