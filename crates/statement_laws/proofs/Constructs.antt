@@ -114,7 +114,7 @@ module _ (deeper more : Bool) (inside : Inside) (expr operand : Rule) (Can : Typ
       (less behind deeper 1 _ k.1 rs _ (bind here behind deeper 1 _ k.1 (expr ∷ rs) rs (reading.this 58 k.1) inside.expr (this-follows deeper 58 (expr ∷ rs) k.1 refl) (exprs u rs)))
       (λ v. refl))))
 
-  call-follows : (at : ℕ) (name : List ℕ) (rs : List Rule) (r : Rest) → (head r == 40) ≡ true → Follows behind deeper 1 (run (arguments more expr ∷ rs) (codes r)) r rs (reading.call_behind inside at name r)
+  pub call-follows : (at : ℕ) (name : List ℕ) (rs : List Rule) (r : Rest) → (head r == 40) ≡ true → Follows behind deeper 1 (run (arguments more expr ∷ rs) (codes r)) r rs (reading.call_behind inside at name r)
   call-follows at name rs r is = bind-stays behind behind deeper 1 _ r rs _ _ (within-follows inside.expr expr 40 41 rs r refl refl is exprs) (λ p. refl)
 
   -- what a name begins

@@ -72,7 +72,7 @@ condition room = expr_rule (negation room)
 
 -- a call that begins a statement
 abbrev pub call : Rule → Rule
-call expr = seq (alt (one lower) (one upper)) (seq (one 40) (closed expr 41))
+call expr = seq (alt (one lower) (one upper)) (arguments true expr)
 
 -- a statement, where so many more may be open besides the parentheses of the call
 abbrev pub statement : ℕ → Rule

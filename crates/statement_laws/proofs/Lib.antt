@@ -2,3 +2,4 @@ pub mod Runs
 pub mod Factored
 pub mod Parts
 pub mod Constructs
+pub mod Rooms
