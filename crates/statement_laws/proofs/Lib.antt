@@ -3,3 +3,4 @@ pub mod Factored
 pub mod Parts
 pub mod Constructs
 pub mod Rooms
+pub mod Fitting
