@@ -4,3 +4,5 @@ pub mod Parts
 pub mod Constructs
 pub mod Rooms
 pub mod Fitting
+pub mod Growing
+pub mod Grown
