@@ -6,3 +6,5 @@ pub mod Rooms
 pub mod Fitting
 pub mod Growing
 pub mod Grown
+pub mod Places
+pub mod Law

@@ -1,0 +1,152 @@
+-- What is spelled is read, and Unexpected stands behind the longest viable front.
+use Rattle.std.proofs.Common.{◌≡◌, ◌∙◌, ℕ, ◌+◌, ◌<◌, ◌≤◌, Bool, true, false, List, [], ◌∷◌, ◌++◌, length, take, drop, Result, Ok, Err, inl, inr, refl, sym, ap, subst, arith, append-nil}
+use Rattle.std.proofs.lemmas.List.{length-map}
+use Rattle.ottl_lex.specs.Codes.{code_of}
+use Rattle.contract_words.specs.Fronts.{IsLongest}
+use Rattle.contract_words.specs.Grammar.{Rule, spells, viable}
+use Rattle.contract_words.specs.Rows.{viable_row, spells_row, fits_row, run, stop}
+use Rattle.contract_words.proofs.Longest.{longest}
+use Rattle.contract_words.proofs.Machine.{run-stop}
+use Rattle.contract_words.proofs.Viable.{spelled_viable}
+use Rattle.contract_words.proofs.Whole.{run_of_spelled}
+use Rattle.ottl_lex.specs.Quoted.{fault, ◌>>=◌}
+use Rattle.ottl_lex.specs.Tokens.{tokens_of}
+use Rattle.ottl_lex.specs.declared.fault.SyntaxFault.{SyntaxFault}
+use Rattle.ottl_lex.specs.declared.fault.SyntaxKind.{SyntaxKind}
+use Rattle.ottl_lex.specs.declared.fault.SyntaxKind.TheVariants.{BadChar, OpenText, BadEscape, NotUtf8, Fraction, BadNumber, Wide, Unexpected, ConditionWanted, ValueWanted, TooDeep}
+use Rattle.ottl_lex.specs.declared.token.Token.{Token}
+use Rattle.ottl_parse.specs.Checks.{Checked}
+use Rattle.ottl_parse.specs.Grammar.{codes_of, statement_rule, condition_rule, read_whole, IsBegun, FaultsAreBehindPrefixes}
+use Rattle.ottl_parse.specs.Parsing as parsing
+use Rattle.ottl_parse.specs.Parsing.{at_end, parsed, check_statement, check_condition, statement_of, condition_of}
+use Rattle.ottl_parse.specs.Place.{Rest, place_of}
+use Rattle.ottl_parse.specs.Reading.{Reads}
+use Rattle.ottl_parse.proofs.Spelled.{statement-faults, condition-faults}
+use Rattle.statement_laws.specs.Whole.{BeginsStatement, BeginsCondition, IsBehindLongest, IsOfGrammar, IsRead, SpelledIsRead, UnexpectedIsBehindLongest}
+use Rattle.statement_laws.proofs.Factored.{statement, condition}
+use Rattle.statement_laws.proofs.Fitting.{statement-fits, condition-fits}
+use Rattle.statement_laws.proofs.Grown.{statement-grows, condition-grows}
+use Rattle.statement_laws.proofs.Growing.{Grows}
+use Rattle.statement_laws.proofs.Places.{one-token}
+use Rattle.statement_laws.proofs.Rooms.{Judged, judged, statement-follows, condition-follows}
+use Rattle.statement_laws.proofs.Runs.{codes, Stops, Fails}
+
+module _ {X : Type 0} (read : Rest → Reads X) (well : X → Checked) where
+  abbrev reads : Rest → Result X SyntaxFault
+  reads start = read start >>= λ p. at_end p.1 >>= λ _. Ok p.0
+
+  abbrev checks : Rest → Result X SyntaxFault
+  checks start = read start >>= λ p. at_end p.1 >>= λ _. well p.0 >>= λ _. Ok p.0
+
+  -- a whole text that is lexed is read from its tokens
+  lexed-reads : (text : List ℕ) (tokens : List Token) → tokens_of text ≡ Ok tokens → read_whole read text ≡ reads (record { text = text; left = tokens })
+  lexed-reads text tokens lexed = ap (λ (m : Result (List Token) SyntaxFault). m >>= λ ts. reads (record { text = text; left = ts })) lexed
+
+  lexed-checks : (text : List ℕ) (tokens : List Token) → tokens_of text ≡ Ok tokens → parsed read well text ≡ checks (record { text = text; left = tokens })
+  lexed-checks text tokens lexed = ap (λ (m : Result (List Token) SyntaxFault). m >>= λ ts. checks (record { text = text; left = ts })) lexed
+
+  -- what is read is checked
+  checked : (m : Reads X) (x : X) → (m >>= λ p. at_end p.1 >>= λ _. Ok p.0) ≡ Ok x → (m >>= λ p. at_end p.1 >>= λ _. well p.0 >>= λ _. Ok p.0) ≡ (well x >>= λ _. Ok x)
+  checked (Err e) x is = absurd (cc)
+  checked (Ok p) x is = by (at_end p.1) is where
+    by : (m : Checked) → (m >>= λ _. Ok p.0) ≡ Ok x → (m >>= λ _. well p.0 >>= λ _. Ok p.0) ≡ (well x >>= λ _. Ok x)
+    by (Err e) e_is = absurd (cc)
+    by (Ok u) p_is = let same : p.0 ≡ x = cc in ap (λ (y : X). well y >>= λ _. Ok y) same
+
+  failed : (m : Reads X) (e : SyntaxFault) → (m >>= λ p. at_end p.1 >>= λ _. Ok p.0) ≡ Err e → (m >>= λ p. at_end p.1 >>= λ _. well p.0 >>= λ _. Ok p.0) ≡ Err e
+  failed (Err d) e is = is
+  failed (Ok p) e is = by (at_end p.1) is where
+    by : (m : Checked) → (m >>= λ _. Ok p.0) ≡ Err e → (m >>= λ _. well p.0 >>= λ _. Ok p.0) ≡ Err e
+    by (Err d) d_is = d_is
+    by (Ok u) p_is = absurd (cc)
+
+  module _ (rule factored : Rule) (fits : fits_row (factored ∷ [])) (grows : Grows rule factored)
+      (judges : (start : Rest) → Judged false (run (factored ∷ []) (codes start)) start (reads start)) where
+    ends-well : (text : List ℕ) (tokens : List Token) → spells rule (codes_of text tokens) → (run (factored ∷ []) (codes_of text tokens)).1 ≡ true
+    ends-well text tokens h =
+        run_of_spelled (factored ∷ []) (codes_of text tokens) fits (codes_of text tokens, [], grows.whole (codes_of text tokens) h, refl, sym (append-nil (codes_of text tokens)))
+
+    no-fault : (kind : SyntaxKind) (at : ℕ) (start : Rest) → (run (factored ∷ []) (codes start)).1 ≡ true → Fails false kind at (run (factored ∷ []) (codes start)) start → IsOfGrammar kind → ⊥
+    no-fault Unexpected at start ends h is = let e : true ≡ false = sym ends ∙ ap (λ (o : ℕ × Bool). o.1) h.runs in cc
+    no-fault TooDeep at start ends h is = let e : true ≡ false = sym ends ∙ h in cc
+    no-fault BadChar at start ends h is = is
+    no-fault OpenText at start ends h is = is
+    no-fault BadEscape at start ends h is = is
+    no-fault NotUtf8 at start ends h is = is
+    no-fault Fraction at start ends h is = is
+    no-fault BadNumber at start ends h is = is
+    no-fault Wide at start ends h is = is
+    no-fault ConditionWanted at start ends h is = is
+    no-fault ValueWanted at start ends h is = is
+
+    pub spelled-read : SpelledIsRead (parsed read well) well rule
+    spelled-read text tokens lexed spelled =
+        let start : Rest = record { text = text; left = tokens } in
+        by start (ends-well text tokens spelled) (lexed-checks text tokens lexed) (reads start) refl (judges start)
+      where
+        by : (start : Rest) → (run (factored ∷ []) (codes start)).1 ≡ true → parsed read well text ≡ checks start → (m : Result X SyntaxFault) → reads start ≡ m → Judged false (run (factored ∷ []) (codes start)) start m → IsRead (parsed read well) well text
+        by start ends same (Ok x) is h = inl (x, same ∙ checked (read start) x is)
+        by start ends same (Err e) is h = inr (e, same ∙ failed (read start) e is, no-fault e.kind e.at start ends h)
+
+-- Fronts.
+one-row : (rule : Rule) (text : List ℕ) → viable_row (rule ∷ []) text → viable rule text
+one-row rule text (inl h) = h
+one-row rule text (inr h) = subst (viable rule) (sym (h.4 ∙ ap (λ (y : List ℕ). h.0 ++ y) h.3 ∙ append-nil h.0)) (spelled_viable rule h.0 h.2)
+
+module _ {X : Type 0} (read : Rest → Reads X) (rule factored : ℕ → Rule) (least : ℕ) (whole : List ℕ → Result X SyntaxFault)
+    (fits : (depth : ℕ) → fits_row (factored depth ∷ [])) (grows : (room depth : ℕ) → room ≤ depth → Grows (rule room) (factored depth))
+    (judges : (depth : ℕ) → least < depth → (start : Rest) → Judged true (run (factored depth ∷ []) (codes start)) start (read start >>= λ p. at_end p.1 >>= λ _. Ok p.0))
+    (known : FaultsAreBehindPrefixes read whole (rule least)) where
+  -- no longer front of the tokens is viable
+  no-longer : (text : List ℕ) (tokens : List Token) (at count : ℕ) → tokens_of text ≡ Ok tokens → count ≤ length tokens → at ≡ place_of text (drop count tokens)
+      → (depth : ℕ) → Stops (run (factored depth ∷ []) (codes_of text tokens)) (record { text = text; left = tokens }) at
+      → (more : ℕ) → count < more → more ≤ length (codes_of text tokens) → viable (factored depth) (take more (codes_of text tokens)) → ⊥
+  no-longer text tokens at count lexed within placed depth stops more above enough h =
+      let all = longest (factored depth ∷ []) (codes_of text tokens) (fits depth) in
+      let at_stop : stop (factored depth ∷ []) (codes_of text tokens) ≡ stops.count = sym (run-stop (factored depth ∷ []) (codes_of text tokens)) ∙ ap (λ (o : ℕ × Bool). o.0) stops.runs in
+      let stop_within : stops.count ≤ length tokens = omega (arith, all.within, at_stop, length-map tokens (code_of text)) in
+      let there : place_of text (drop stops.count tokens) ≡ at = sym (stops.placed ∙ ap (λ (t : List ℕ). place_of t stops.there.left) stops.text ∙ ap (place_of text) stops.left) in
+      let no_later : stops.count ≤ count = one-token text tokens stops.count count lexed stop_within (there ∙ placed) in
+      all.no_longer more (omega (arith, at_stop, no_later, above)) enough (inl h)
+
+  pub unexpected-behind : UnexpectedIsBehindLongest read whole (λ codes. (room : ℕ) × viable (rule room) codes)
+  unexpected-behind text tokens at lexed is =
+      let start : Rest = record { text = text; left = tokens } in
+      let both = known text tokens (fault Unexpected at) lexed is in
+      let begun : IsBegun (rule least) text tokens at = both.1 tt in
+      let is_read : (read start >>= λ p. at_end p.1 >>= λ _. Ok p.0) ≡ Err (fault Unexpected at) =
+      sym (ap (λ (m : Result (List Token) SyntaxFault). m >>= λ ts. read (record { text = text; left = ts }) >>= λ p. at_end p.1 >>= λ _. Ok p.0) lexed) ∙ is in
+      (both.0, record {
+        count = begun.count;
+        placed = begun.placed;
+        longest = record {
+          within = omega (arith, begun.within, length-map tokens (code_of text));
+          begun = (least, begun.begun);
+          no_longer = λ more above enough h.
+              let depth : ℕ = least + 1 + h.0 in
+              let stops : Stops (run (factored depth ∷ []) (codes start)) start at = subst (Judged {X = X} true (run (factored depth ∷ []) (codes start)) start) is_read (judges depth (omega arith) start) in
+              no-longer text tokens at begun.count lexed begun.within begun.placed depth stops more above enough ((grows h.0 depth (omega arith)).begun (take more (codes_of text tokens)) h.1);
+        };
+      })
+
+pub statements-read : SpelledIsRead statement_of check_statement (statement_rule 63)
+unfolding statement_of
+statements-read =
+    spelled-read parsing.statement check_statement (statement_rule 63) (statement 63) (statement-fits 63) (statement-grows 63 63 (omega arith))
+    (judged false parsing.statement (statement 63) (statement-follows false 63 refl))
+
+pub conditions-read : SpelledIsRead condition_of check_condition (condition_rule 64)
+unfolding condition_of
+conditions-read =
+    spelled-read parsing.condition check_condition (condition_rule 64) (condition 64) (condition-fits 64) (condition-grows 64 64 (omega arith))
+    (judged false parsing.condition (condition 64) (condition-follows false 64 refl))
+
+pub statement-fronts : UnexpectedIsBehindLongest parsing.statement statement_of BeginsStatement
+statement-fronts =
+    unexpected-behind parsing.statement statement_rule statement 63 statement_of statement-fits statement-grows
+    (λ depth deep. judged true parsing.statement (statement depth) (statement-follows true depth deep)) statement-faults
+
+pub condition-fronts : UnexpectedIsBehindLongest parsing.condition condition_of BeginsCondition
+condition-fronts =
+    unexpected-behind parsing.condition condition_rule condition 64 condition_of condition-fits condition-grows
+    (λ depth deep. judged true parsing.condition (condition depth) (condition-follows true depth deep)) condition-faults
