@@ -435,8 +435,7 @@ statement-fits room =
     let further_one : Rule = seq (one where_word) (condition (suc room)) in
     let all_behind : ℕ → Bool = λ b. first (optional further_one) b || (nullable (optional further_one) && nothing-behind b) in
     let Arguments : Rule = arguments true (condition room) in
-    let arguments_null : nullable Arguments ≡ false = refl in
-    (
+    let arguments_null : nullable Arguments ≡ false = refl in (
       (
         (((λ b h k. low-up b h k), tt, tt), untrue, arguments-fit true (condition room) (negation room) inner.exprs_null inner.begin inner.exprs inner.negations_null inner.negations all_behind, untrue),
         untrue,

@@ -115,19 +115,21 @@ module _ {X : Type 0} (read : Rest → Reads X) (rule factored : ℕ → Rule) (
       let both = known text tokens (fault Unexpected at) lexed is in
       let begun : IsBegun (rule least) text tokens at = both.1 tt in
       let is_read : (read start >>= λ p. at_end p.1 >>= λ _. Ok p.0) ≡ Err (fault Unexpected at) =
-      sym (ap (λ (m : Result (List Token) SyntaxFault). m >>= λ ts. read (record { text = text; left = ts }) >>= λ p. at_end p.1 >>= λ _. Ok p.0) lexed) ∙ is in
-      (both.0, record {
-        count = begun.count;
-        placed = begun.placed;
-        longest = record {
-          within = omega (arith, begun.within, length-map tokens (code_of text));
-          begun = (least, begun.begun);
-          no_longer = λ more above enough h.
-              let depth : ℕ = least + 1 + h.0 in
-              let stops : Stops (run (factored depth ∷ []) (codes start)) start at = subst (Judged {X = X} true (run (factored depth ∷ []) (codes start)) start) is_read (judges depth (omega arith) start) in
-              no-longer text tokens at begun.count lexed begun.within begun.placed depth stops more above enough ((grows h.0 depth (omega arith)).begun (take more (codes_of text tokens)) h.1);
-        };
-      })
+      sym (ap (λ (m : Result (List Token) SyntaxFault). m >>= λ ts. read (record { text = text; left = ts }) >>= λ p. at_end p.1 >>= λ _. Ok p.0) lexed) ∙ is in (
+        both.0,
+        record {
+          count = begun.count;
+          placed = begun.placed;
+          longest = record {
+            within = omega (arith, begun.within, length-map tokens (code_of text));
+            begun = (least, begun.begun);
+            no_longer = λ more above enough h.
+                let depth : ℕ = least + 1 + h.0 in
+                let stops : Stops (run (factored depth ∷ []) (codes start)) start at = subst (Judged {X = X} true (run (factored depth ∷ []) (codes start)) start) is_read (judges depth (omega arith) start) in
+                no-longer text tokens at begun.count lexed begun.within begun.placed depth stops more above enough ((grows h.0 depth (omega arith)).begun (take more (codes_of text tokens)) h.1);
+          };
+        },
+      )
 
 pub statements-read : SpelledIsRead statement_of check_statement (statement_rule 63)
 unfolding statement_of
