@@ -37,7 +37,7 @@ fn what_the_grammar_spells_is_no_fault_of_it(rt: HostRuntime) -> Result<(), Fail
         ("set(body, -1 + +2 * a.b[\"c\"][0])", ""),
         (
             "set(body, {\"a\": [F(), E]}) where not (x < 1) and f()",
-            "ConditionWanted at 52",
+            "ConditionWanted at 49",
         ),
         ("set(body, [0x0a, (1 - 2) / 3])", ""),
         ("set(a == b)", "ValueWanted at 4"),
