@@ -22,7 +22,8 @@ use Rattle.ottl_parse.specs.Parsing.{at_end, parsed, check_statement, check_cond
 use Rattle.ottl_parse.specs.Place.{Rest, place_of}
 use Rattle.ottl_parse.specs.Reading.{Reads}
 use Rattle.ottl_parse.proofs.Spelled.{statement-faults, condition-faults}
-use Rattle.statement_laws.specs.Whole.{BeginsStatement, BeginsCondition, IsBehindLongest, IsOfGrammar, IsRead, SpelledIsRead, UnexpectedIsBehindLongest}
+use Rattle.statement_laws.specs.Whole.{BeginsStatement, BeginsCondition, IsBehindLongest, IsRead, SpelledIsRead, UnexpectedIsBehindLongest}
+use Rattle.statement_laws.proofs.Contents.{no-bad-contents}
 use Rattle.statement_laws.proofs.Factored.{statement, condition}
 use Rattle.statement_laws.proofs.Fitting.{statement-fits, condition-fits}
 use Rattle.statement_laws.proofs.Grown.{statement-grows, condition-grows}
@@ -66,27 +67,32 @@ module _ {X : Type 0} (read : Rest → Reads X) (well : X → Checked) where
     ends-well text tokens h =
         run_of_spelled (factored ∷ []) (codes_of text tokens) fits (codes_of text tokens, [], grows.whole (codes_of text tokens) h, refl, sym (append-nil (codes_of text tokens)))
 
-    no-fault : (kind : SyntaxKind) (at : ℕ) (start : Rest) → (run (factored ∷ []) (codes start)).1 ≡ true → Fails false kind at (run (factored ∷ []) (codes start)) start → IsOfGrammar kind → ⊥
-    no-fault Unexpected at start ends h is = let e : true ≡ false = sym ends ∙ ap (λ (o : ℕ × Bool). o.1) h.runs in cc
-    no-fault TooDeep at start ends h is = let e : true ≡ false = sym ends ∙ h in cc
-    no-fault BadChar at start ends h is = is
-    no-fault OpenText at start ends h is = is
-    no-fault BadEscape at start ends h is = is
-    no-fault NotUtf8 at start ends h is = is
-    no-fault Fraction at start ends h is = is
-    no-fault BadNumber at start ends h is = is
-    no-fault Wide at start ends h is = is
-    no-fault ConditionWanted at start ends h is = is
-    no-fault ValueWanted at start ends h is = is
+    -- a fault that is found is a number that is too wide
+    only-wide : (kind : SyntaxKind) (at : ℕ) (text : List ℕ) (tokens : List Token) → tokens_of text ≡ Ok tokens → (run (factored ∷ []) (codes_of text tokens)).1 ≡ true
+        → Fails false kind at (run (factored ∷ []) (codes_of text tokens)) (record { text = text; left = tokens }) → kind ≡ Wide
+    only-wide Wide at text tokens lexed ends h = refl
+    only-wide Unexpected at text tokens lexed ends h = absurd (let e : true ≡ false = sym ends ∙ ap (λ (o : ℕ × Bool). o.1) h.runs in cc)
+    only-wide TooDeep at text tokens lexed ends h = absurd (let e : true ≡ false = sym ends ∙ h in cc)
+    only-wide BadChar at text tokens lexed ends h = absurd (no-bad-contents text tokens (record { kind = BadChar; at = at }) lexed h)
+    only-wide OpenText at text tokens lexed ends h = absurd (no-bad-contents text tokens (record { kind = OpenText; at = at }) lexed h)
+    only-wide BadEscape at text tokens lexed ends h = absurd (no-bad-contents text tokens (record { kind = BadEscape; at = at }) lexed h)
+    only-wide NotUtf8 at text tokens lexed ends h = absurd (no-bad-contents text tokens (record { kind = NotUtf8; at = at }) lexed h)
+    only-wide Fraction at text tokens lexed ends h = absurd (no-bad-contents text tokens (record { kind = Fraction; at = at }) lexed h)
+    only-wide BadNumber at text tokens lexed ends h = absurd (no-bad-contents text tokens (record { kind = BadNumber; at = at }) lexed h)
+    only-wide ConditionWanted at text tokens lexed ends h = absurd (no-bad-contents text tokens (record { kind = ConditionWanted; at = at }) lexed h)
+    only-wide ValueWanted at text tokens lexed ends h = absurd (no-bad-contents text tokens (record { kind = ValueWanted; at = at }) lexed h)
 
     pub spelled-read : SpelledIsRead (parsed read well) well rule
     spelled-read text tokens lexed spelled =
         let start : Rest = record { text = text; left = tokens } in
-        by start (ends-well text tokens spelled) (lexed-checks text tokens lexed) (reads start) refl (judges start)
+        by (reads start) refl (judges start)
       where
-        by : (start : Rest) → (run (factored ∷ []) (codes start)).1 ≡ true → parsed read well text ≡ checks start → (m : Result X SyntaxFault) → reads start ≡ m → Judged false (run (factored ∷ []) (codes start)) start m → IsRead (parsed read well) well text
-        by start ends same (Ok x) is h = inl (x, same ∙ checked (read start) x is)
-        by start ends same (Err e) is h = inr (e, same ∙ failed (read start) e is, no-fault e.kind e.at start ends h)
+        by : (m : Result X SyntaxFault) → reads (record { text = text; left = tokens }) ≡ m → Judged false (run (factored ∷ []) (codes_of text tokens)) (record { text = text; left = tokens }) m
+            → IsRead (parsed read well) well text
+        by (Ok x) is h = inl (x, lexed-checks text tokens lexed ∙ checked (read (record { text = text; left = tokens })) x is)
+        by (Err e) is h =
+            let wide : e.kind ≡ Wide = only-wide e.kind e.at text tokens lexed (ends-well text tokens spelled) h in
+            inr (e.at, lexed-checks text tokens lexed ∙ failed (read (record { text = text; left = tokens })) e is ∙ ap (λ (k : SyntaxKind). Err (fault k e.at)) wide)
 
 -- Fronts.
 one-row : (rule : Rule) (text : List ℕ) → viable_row (rule ∷ []) text → viable rule text

@@ -7,4 +7,5 @@ pub mod Fitting
 pub mod Growing
 pub mod Grown
 pub mod Places
+pub mod Contents
 pub mod Law

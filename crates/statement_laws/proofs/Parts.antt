@@ -10,7 +10,8 @@ use Rattle.ottl_lex.specs.Codes.{code_of, quoted, digits, hex, true_word, false_
 use Rattle.ottl_lex.specs.Quoted as lex
 use Rattle.ottl_lex.specs.Quoted.{◌>>=◌, text_of}
 use Rattle.ottl_lex.specs.declared.fault.SyntaxFault.{SyntaxFault}
-use Rattle.ottl_lex.specs.declared.fault.SyntaxKind.TheVariants.{Wide}
+use Rattle.ottl_lex.specs.declared.fault.SyntaxKind.TheVariants.{BadChar, OpenText, BadEscape, NotUtf8, Fraction, BadNumber, Wide, Unexpected, ConditionWanted, ValueWanted, TooDeep}
+use Rattle.ottl_lex.specs.declared.fault.SyntaxKind.{SyntaxKind}
 use Rattle.ottl_lex.specs.declared.token.Token.{Token}
 use Rattle.ottl_parse.specs.Grammar.{codes_of, one}
 use Rattle.ottl_parse.specs.Place.{Rest, head_of, head, place, slice, past}
@@ -19,7 +20,7 @@ use Rattle.ottl_parse.specs.Reading.{Reads, with_front, pieces, make}
 use Rattle.ottl_parse.specs.declared.expr.Expr.{Expr}
 use Rattle.ottl_parse.specs.declared.expr.ExprKind.{ExprKind}
 use Rattle.statement_laws.proofs.Factored.{signed, literal}
-use Rattle.statement_laws.proofs.Runs.{codes, ahead, Goes, Stops, Fails, Follows, here, behind, follows-then, bind, bind-stays, stays, same-run, less, either, goes-shorter}
+use Rattle.statement_laws.proofs.Runs.{codes, ahead, Goes, Stops, Cites, Fails, Follows, here, behind, follows-then, bind, bind-stays, stays, same-run, less, either, goes-shorter}
 
 -- The run of rows that step alike at the next token.
 pub run-at : (rs ss : List Rule) (r : Rest) → row_nullable rs ≡ row_nullable ss → step rs (head r) ≡ step ss (head r) → run rs (codes r) ≡ run ss (codes r)
@@ -77,17 +78,24 @@ refuses kind rs r is = by r.left is where
 pub stopped : (o : ℕ × Bool) (r : Rest) → o ≡ (0, false) → Stops o r (place r)
 stopped o r is = record { count = 0; there = r; left = refl; text = refl; placed = refl; runs = is }
 
+-- no fault of the grammar, nor of numbers
+abbrev IsForeign : SyntaxKind → Type 0
+IsForeign Unexpected = ⊥
+IsForeign TooDeep = ⊥
+IsForeign Wide = ⊥
+IsForeign _ = Unit {0}
+
 -- The contents of a text have no fault of the grammar.
 abbrev Foreign : {X : Type 0} → Result X SyntaxFault → Type 0
 Foreign (Ok x) = Unit {0}
-Foreign (Err e) = (deeper : Bool) (o : ℕ × Bool) (r : Rest) → Fails deeper e.kind e.at o r
+Foreign (Err e) = IsForeign e.kind
 
 foreign-front : (front : List ℕ) (m : Result (List ℕ) SyntaxFault) → Foreign m → Foreign (lex.with_front front m)
 foreign-front front (Ok x) h = tt
 foreign-front front (Err e) h = h
 
 foreign-escape : (at : ℕ) (o : Option lex.Escape) (f : ℕ → Result (List ℕ) SyntaxFault) → ((n : ℕ) → Foreign (f n)) → Foreign (lex.escaped at o f)
-foreign-escape at None f h = λ deeper o r. tt
+foreign-escape at None f h = tt
 foreign-escape at (Some e) f h = foreign-front e.0 (f e.1) (h e.1)
 
 foreign-cond : {X : Type 0} (t : Bool) (m n : Result X SyntaxFault) → Foreign m → Foreign n → Foreign (cond t m n)
@@ -102,7 +110,7 @@ foreign-unescaped (b ∷ rest) zero at =
     (foreign-front (b ∷ []) (lex.unescaped 0 (at + 1) rest) (foreign-unescaped rest 0 (at + 1)))
 
 foreign-utf8 : (at : ℕ) (m : Result (List ℕ) SyntaxFault) → Foreign m → Foreign (m >>= lex.as_utf8 at)
-foreign-utf8 at (Ok bytes) h = foreign-cond (is_utf8 bytes) _ _ tt (λ deeper o r. tt)
+foreign-utf8 at (Ok bytes) h = foreign-cond (is_utf8 bytes) _ _ tt tt
 foreign-utf8 at (Err e) h = h
 
 foreign-text : (at : ℕ) (piece : List ℕ) → Foreign (text_of at piece)
@@ -173,16 +181,35 @@ module _ (deeper : Bool) where
         (λ is. stays _ r rs (ends-follow rs r is))
 
   -- What has no expressions inside.
-  kept : {X Y : Type 0} (m : Result X SyntaxFault) (g : X → Y) (a : ℕ) (o : ℕ × Bool) (r q : Rest) (rs : List Rule) → Goes a o r rs q → Foreign m → Follows behind deeper a o r rs (m >>= λ x. Ok (g x, q))
-  kept (Ok x) g a o r q rs h f = h
-  kept (Err e) g a o r q rs h f = f deeper o r
+  cited : (kind : SyntaxKind) (at : ℕ) (o : ℕ × Bool) (r : Rest) → IsForeign kind → Cites r (record { kind = kind; at = at }) → Fails deeper kind at o r
+  cited Unexpected at o r foreign h = absurd foreign
+  cited TooDeep at o r foreign h = absurd foreign
+  cited Wide at o r foreign h = absurd foreign
+  cited BadChar at o r foreign h = h
+  cited OpenText at o r foreign h = h
+  cited BadEscape at o r foreign h = h
+  cited NotUtf8 at o r foreign h = h
+  cited Fraction at o r foreign h = h
+  cited BadNumber at o r foreign h = h
+  cited ConditionWanted at o r foreign h = h
+  cited ValueWanted at o r foreign h = h
+
+  contents-follow : (rs : List Rule) (r : Rest) → (head r == quoted) ≡ true → (m : Result (List ℕ) SyntaxFault) → text_of (place r) (slice r) ≡ m → Foreign m
+      → Follows behind deeper 1 (run (one quoted ∷ rs) (codes r)) r rs (m >>= λ t. Ok (t, past r))
+  contents-follow rs r is (Ok t) known foreign = takes (λ b. b == quoted) rs r refl is
+  contents-follow rs r is (Err e) known foreign = cited e.kind e.at _ r foreign (record { count = 0; there = r; left = refl; text = refl; is_quoted = is; known = known })
+
+  -- the bytes of the next token, if it is a text
+  abbrev given : Bool → Rest → Reads (List ℕ)
+  given t r = cond t (Ok (slice r, past r)) (reading.stops Unexpected r)
 
   pub text-follows : (rs : List Rule) (r : Rest) → Follows behind deeper 1 (run (one quoted ∷ rs) (codes r)) r rs (reading.text r)
   unfolding reading.text
-  text-follows rs r = by (reading.bytes_of quoted r) (bytes-follow quoted rs r refl) where
-    by : (m : Reads (List ℕ)) → Follows behind deeper 1 (run (one quoted ∷ rs) (codes r)) r rs m → Follows behind deeper 1 (run (one quoted ∷ rs) (codes r)) r rs (m >>= λ p. text_of (place r) p.0 >>= λ t. Ok (t, p.1))
-    by (Err e) h = h
-    by (Ok p) h = kept (text_of (place r) p.0) (λ t. t) 1 _ r p.1 rs h (foreign-text (place r) p.0)
+  text-follows rs r = by (head r == quoted) refl where
+    by : (t : Bool) → (head r == quoted) ≡ t
+        → Follows behind deeper 1 (run (one quoted ∷ rs) (codes r)) r rs (given t r >>= λ p. text_of (place r) p.0 >>= λ t. Ok (t, p.1))
+    by true is = contents-follow rs r is (text_of (place r) (slice r)) refl (foreign-text (place r) (slice r))
+    by false is = stopped _ r (refuses (λ b. b == quoted) rs r is)
 
   wide-follows : {X : Type 0} (o : Option X) (rs : List Rule) (r : Rest) → (head r == digits) ≡ true → Follows behind deeper 1 (run (one digits ∷ rs) (codes r)) r rs (reading.or_wide o r)
   wide-follows None rs r is = tt

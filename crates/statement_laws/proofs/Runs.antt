@@ -3,11 +3,13 @@ use Rattle.std.proofs.Common.{◌≡◌, ◌∙◌, ℕ, ◌+◌, ◌<◌, ◌�
 use Rattle.std.proofs.lemmas.List.{drop-drop}
 use Rattle.contract_words.specs.Grammar.{Rule}
 use Rattle.contract_words.specs.Rows.{run}
-use Rattle.ottl_lex.specs.Quoted.{◌>>=◌}
+use Rattle.std.specs.Prelude.{◌==◌}
+use Rattle.ottl_lex.specs.Codes.{quoted}
+use Rattle.ottl_lex.specs.Quoted.{◌>>=◌, text_of}
 use Rattle.ottl_lex.specs.declared.fault.SyntaxFault.{SyntaxFault}
 use Rattle.ottl_lex.specs.declared.fault.SyntaxKind.{SyntaxKind}
 use Rattle.ottl_lex.specs.declared.fault.SyntaxKind.TheVariants.{BadChar, OpenText, BadEscape, NotUtf8, Fraction, BadNumber, Wide, Unexpected, ConditionWanted, ValueWanted, TooDeep}
-use Rattle.ottl_parse.specs.Place.{Rest, place}
+use Rattle.ottl_parse.specs.Place.{Rest, head, place, slice}
 use Rattle.ottl_parse.specs.Grammar.{codes_of}
 
 abbrev pub codes : Rest → List ℕ
@@ -40,11 +42,21 @@ abbrev pub Deep : Bool → ℕ × Bool → Type 0
 Deep true o = Unit {0}
 Deep false o = o.1 ≡ false
 
+-- A reading met a text whose contents have the fault.
+pub record Cites (start : Rest) (f : SyntaxFault) : Type 0 where
+  pub count : ℕ
+  pub there : Rest
+  pub left : there.left ≡ drop count start.left
+  pub text : there.text ≡ start.text
+  pub is_quoted : (head there == quoted) ≡ true
+  pub known : text_of (place there) (slice there) ≡ Err f
+
 -- what a fault says of a run; whether the grammar nests deeper than the reading
 abbrev pub Fails : Bool → SyntaxKind → ℕ → ℕ × Bool → Rest → Type 0
 Fails deeper Unexpected at o start = Stops o start at
 Fails deeper TooDeep at o start = Deep deeper o
-Fails deeper _ at o start = Unit {0}
+Fails deeper Wide at o start = Unit {0}
+Fails deeper kind at o start = Cites start (record { kind = kind; at = at })
 
 abbrev pub Follows : {A : Type 0} → (A → Rest) → Bool → ℕ → ℕ × Bool → Rest → List Rule → Result A SyntaxFault → Type 0
 Follows to deeper least o start rows (Ok x) = Goes least o start rows (to x)
@@ -87,19 +99,29 @@ deep-then : (deeper : Bool) (a : ℕ) (o : ℕ × Bool) (start mid : Rest) (midd
 deep-then true a o start mid middle g h = tt
 deep-then false a o start mid middle g h = ap (λ (q : ℕ × Bool). q.1) g.runs ∙ h
 
+cites-then : (a : ℕ) (o : ℕ × Bool) (start mid : Rest) (middle : List Rule) (f : SyntaxFault) → Goes a o start middle mid → Cites mid f → Cites start f
+cites-then a o start mid middle f g h = record {
+  count = g.count + h.count;
+  there = h.there;
+  left = h.left ∙ ap (drop h.count) g.left ∙ drop-drop h.count g.count start.left;
+  text = h.text ∙ g.text;
+  is_quoted = h.is_quoted;
+  known = h.known;
+}
+
 fails-then : (deeper : Bool) (kind : SyntaxKind) (a : ℕ) (o : ℕ × Bool) (start mid : Rest) (middle : List Rule) (at : ℕ) → Goes a o start middle mid
     → Fails deeper kind at (run middle (codes mid)) mid → Fails deeper kind at o start
 fails-then deeper Unexpected a o start mid middle at g h = stops-then a o start mid middle at g h
 fails-then deeper TooDeep a o start mid middle at g h = deep-then deeper a o start mid middle g h
-fails-then deeper BadChar a o start mid middle at g h = tt
-fails-then deeper OpenText a o start mid middle at g h = tt
-fails-then deeper BadEscape a o start mid middle at g h = tt
-fails-then deeper NotUtf8 a o start mid middle at g h = tt
-fails-then deeper Fraction a o start mid middle at g h = tt
-fails-then deeper BadNumber a o start mid middle at g h = tt
+fails-then deeper BadChar a o start mid middle at g h = cites-then a o start mid middle (record { kind = BadChar; at = at }) g h
+fails-then deeper OpenText a o start mid middle at g h = cites-then a o start mid middle (record { kind = OpenText; at = at }) g h
+fails-then deeper BadEscape a o start mid middle at g h = cites-then a o start mid middle (record { kind = BadEscape; at = at }) g h
+fails-then deeper NotUtf8 a o start mid middle at g h = cites-then a o start mid middle (record { kind = NotUtf8; at = at }) g h
+fails-then deeper Fraction a o start mid middle at g h = cites-then a o start mid middle (record { kind = Fraction; at = at }) g h
+fails-then deeper BadNumber a o start mid middle at g h = cites-then a o start mid middle (record { kind = BadNumber; at = at }) g h
 fails-then deeper Wide a o start mid middle at g h = tt
-fails-then deeper ConditionWanted a o start mid middle at g h = tt
-fails-then deeper ValueWanted a o start mid middle at g h = tt
+fails-then deeper ConditionWanted a o start mid middle at g h = cites-then a o start mid middle (record { kind = ConditionWanted; at = at }) g h
+fails-then deeper ValueWanted a o start mid middle at g h = cites-then a o start mid middle (record { kind = ValueWanted; at = at }) g h
 
 -- what was read, and then what follows
 pub follows-then : {B : Type 0} (pb : B → Rest) (deeper : Bool) (a : ℕ) (o : ℕ × Bool) (start mid : Rest) (middle rows : List Rule) (res : Result B SyntaxFault)

@@ -5,8 +5,7 @@ use Rattle.contract_words.specs.Grammar.{Rule, spells, viable}
 use Rattle.ottl_lex.specs.Quoted.{fault, ◌>>=◌}
 use Rattle.ottl_lex.specs.Tokens.{tokens_of}
 use Rattle.ottl_lex.specs.declared.fault.SyntaxFault.{SyntaxFault}
-use Rattle.ottl_lex.specs.declared.fault.SyntaxKind.{SyntaxKind}
-use Rattle.ottl_lex.specs.declared.fault.SyntaxKind.TheVariants.{Unexpected, TooDeep}
+use Rattle.ottl_lex.specs.declared.fault.SyntaxKind.TheVariants.{Wide, Unexpected}
 use Rattle.ottl_lex.specs.declared.token.Token.{Token}
 use Rattle.ottl_parse.specs.Checks.{Checked}
 use Rattle.ottl_parse.specs.Grammar.{codes_of, statement_rule, condition_rule, read_whole}
@@ -28,18 +27,12 @@ pub record IsBehindLongest (Passes : List ℕ → Type 0) (text : List ℕ) (tok
   pub placed : at ≡ place_of text (drop count tokens)
   pub longest : IsLongest Passes (codes_of text tokens) count
 
--- a fault of the grammar, or of its depth
-abbrev pub IsOfGrammar : SyntaxKind → Type 0
-IsOfGrammar Unexpected = Unit {0}
-IsOfGrammar TooDeep = Unit {0}
-IsOfGrammar _ = ⊥
-
--- Something is read, and all that is left is whether conditions and values stand where they may;
--- or a fault is found that isn't the grammar's.
+-- Something is read, and all that is left is whether conditions and values stand where they may; or
+-- the fault is a number that is too wide.
 abbrev pub IsRead : {X : Type 0} → (List ℕ → Result X SyntaxFault) → (X → Checked) → List ℕ → Type 0
 IsRead whole well text =
     ((x : _) × (whole text ≡ (well x >>= λ _. Ok x)))
-    ⊎ ((f : SyntaxFault) × (whole text ≡ Err f) × (IsOfGrammar f.kind → ⊥))
+    ⊎ ((at : ℕ) × (whole text ≡ Err (fault Wide at)))
 
 -- where the rule spells the tokens of a text
 abbrev pub SpelledIsRead : {X : Type 0} → (List ℕ → Result X SyntaxFault) → (X → Checked) → Rule
