@@ -1,8 +1,7 @@
 -- Readings with constructs inside go beside the runs of their rules.
-use Rattle.std.proofs.Common.{◌≡◌, ◌∙◌, ℕ, ◌<◌, ◌≤◌, Bool, true, false, List, [], ◌∷◌, length, Option, Some, None, Result, Ok, Err, refl, sym, ap, arith, cond}
-use Rattle.std.specs.Prelude.{◌==◌, ◌||◌, ◌&&◌}
-use Rattle.std.proofs.lemmas.Bool.Decides.{nat_tests}
-use Rattle.contract_words.specs.Grammar.{Rule, nothing, byte, alt, seq, many, nullable, first}
+use Rattle.std.proofs.Common.{◌≡◌, ◌∙◌, ℕ, Bool, true, false, List, [], ◌∷◌, length, Option, Some, None, Result, Ok, refl, arith, cond}
+use Rattle.std.specs.Prelude.{◌==◌, ◌||◌}
+use Rattle.contract_words.specs.Grammar.{Rule, nothing, byte, alt, seq, many, first}
 use Rattle.contract_words.specs.Rows.{run}
 use Rattle.contract_words.proofs.Machine.{run-seq}
 use Rattle.ottl_lex.specs.Codes.{lower, upper, quoted, digits, not_word, and_word, or_word, equal, unequal, at_most, at_least}
@@ -18,8 +17,8 @@ use Rattle.ottl_parse.specs.declared.expr.ExprKind.TheVariants as kinds
 use Rattle.ottl_parse.specs.declared.sign.Sign.{Sign}
 use Rattle.ottl_parse.specs.declared.sign.Sign.TheVariants.{Equal, Unequal, Less, AtMost, Greater, AtLeast}
 use Rattle.statement_laws.proofs.Factored.{opens, closed, literal, further, arguments, named, group, list, pairs, primary, negated}
-use Rattle.statement_laws.proofs.Runs.{codes, Goes, Follows, here, behind, follows-then, bind, bind-known, bind-stays, stays, same-run, less, either}
-use Rattle.statement_laws.proofs.Parts.{run-begun, run-left, run-right, or-none, takes, in-seq, choose, absent, this-follows, bytes-follow, front-follows, make-follows, pieces-follow, ends-follow, text-follows, index-follows, literal-follows}
+use Rattle.statement_laws.proofs.Runs.{codes, Follows, here, behind, follows-then, bind, bind-known, bind-stays, stays, same-run, less, either}
+use Rattle.statement_laws.proofs.Parts.{run-left, run-right, or-none, takes, in-seq, choose, absent, this-follows, bytes-follow, front-follows, make-follows, pieces-follow, ends-follow, text-follows, index-follows, literal-follows}
 
 -- the second of two tests
 second : (a b : Bool) → (a || b) ≡ true → a ≡ false → b ≡ true

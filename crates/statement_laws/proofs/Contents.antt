@@ -1,11 +1,11 @@
 -- The tokens of a text are those of the table, and texts among them have contents.
-use Rattle.std.proofs.Common.{◌≡◌, ◌∙◌, ℕ, zero, suc, ◌+◌, ◌-◌, ◌<◌, Bool, true, false, List, [], ◌∷◌, ◌++◌, length, take, drop, take_at, Ok, Err, refl, sym, ap, subst, arith, cond}
+use Rattle.std.proofs.Common.{◌≡◌, ◌∙◌, ℕ, zero, suc, ◌+◌, ◌-◌, Bool, true, false, List, [], ◌∷◌, length, take, drop, take_at, Ok, Err, refl, sym, ap, subst, arith, cond}
 use Rattle.std.specs.Prelude.{◌==◌}
 use Rattle.std.proofs.lemmas.Bool.Decides.{nat_tests}
 use Rattle.std.proofs.lemmas.List.{drop-drop}
 use Rattle.std.proofs.Math.Seq.{drop-append_seam}
-use Rattle.ottl_lex.specs.Codes.{code_of, code_in, quoted}
-use Rattle.ottl_lex.specs.Table.{AreTokens, IsSign, IsText, IsToken}
+use Rattle.ottl_lex.specs.Codes.{code_in, quoted}
+use Rattle.ottl_lex.specs.Table.{AreTokens, IsText, IsToken}
 use Rattle.ottl_lex.specs.Tokens.{is_sign, slice_of, tokens_of}
 use Rattle.ottl_lex.specs.declared.fault.SyntaxFault.{SyntaxFault}
 use Rattle.ottl_lex.specs.declared.token.Token.{Token}

@@ -1,8 +1,8 @@
 -- The grammar in a form in which one token always tells how it goes on.
 use Rattle.std.specs.Prelude.{ℕ, zero, suc, Bool, true, false}
-use Rattle.contract_words.specs.Grammar.{Rule, nothing, byte, alt, seq, many}
+use Rattle.contract_words.specs.Grammar.{Rule, nothing, alt, seq, many}
 use Rattle.ottl_lex.specs.Codes.{lower, upper, quoted, digits, hex, where_word, not_word, true_word, false_word, nil_word}
-use Rattle.ottl_parse.specs.Grammar.{one, optional, never, key_rule, part_rule, comparison_rule, and_rule, expr_rule}
+use Rattle.ottl_parse.specs.Grammar.{one, optional, never, key_rule, part_rule, comparison_rule, expr_rule}
 
 -- whether a construct may be opened
 abbrev pub gate : Bool → Rule

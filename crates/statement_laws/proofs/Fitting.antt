@@ -1,5 +1,5 @@
 -- One token always tells how the grammar goes on.
-use Rattle.std.proofs.Common.{◌≡◌, ℕ, zero, suc, Bool, true, false, List, [], ◌∷◌, refl, arith, ◌⊎◌, inl, inr}
+use Rattle.std.proofs.Common.{◌≡◌, ℕ, zero, suc, Bool, true, false, [], ◌∷◌, refl, arith, ◌⊎◌, inl, inr}
 use Rattle.std.specs.Prelude.{◌&&◌, ◌||◌, ◌==◌}
 use Rattle.std.proofs.lemmas.Bool.Decides.{nat_tests}
 use Rattle.contract_words.specs.Grammar.{Rule, nothing, byte, alt, seq, many, nullable, first}
@@ -7,7 +7,7 @@ use Rattle.contract_words.specs.Rows.{Apart, fits, fits_row}
 use Rattle.ottl_lex.specs.Codes.{lower, upper, quoted, digits, where_word, and_word, or_word, not_word}
 use Rattle.ottl_parse.specs.Grammar.{one, optional, never, key_rule, part_rule, product_rule, sum_rule, is_comparison_sign, comparison_rule, and_rule, expr_rule}
 use Rattle.ottl_parse.specs.Reading.{is_product_sign, is_sum_sign}
-use Rattle.statement_laws.proofs.Factored.{gate, opens, closed, signed, literal, further, arguments, named, group, list, pairs, primary, negated, negation, condition, call, statement}
+use Rattle.statement_laws.proofs.Factored.{gate, opens, closed, signed, literal, further, arguments, named, group, list, pairs, primary, negated, negation, condition, statement}
 
 untrue : {X : Type 0} → false ≡ true → X
 untrue e = absurd cc

@@ -1,7 +1,7 @@
 -- Rules that have the texts and the viable prefixes of others.
-use Rattle.std.proofs.Common.{◌≡◌, ◌∙◌, ℕ, zero, suc, Bool, true, false, List, [], ◌∷◌, ◌++◌, refl, sym, ap, subst, inl, inr, ◌⊎◌, append_assoc, append-nil}
+use Rattle.std.proofs.Common.{◌≡◌, ◌∙◌, ℕ, zero, suc, Bool, true, false, List, [], ◌++◌, refl, sym, ap, subst, inl, inr, ◌⊎◌, append_assoc, append-nil}
 use Rattle.contract_words.specs.Grammar.{Rule, nothing, byte, alt, seq, many, Turns, spells, viable}
-use Rattle.contract_words.proofs.Viable.{empty_viable, spelled_viable}
+use Rattle.contract_words.proofs.Viable.{empty_viable}
 
 -- what the first spells the second spells, and what is viable in it is viable in the second
 pub record Grows (r s : Rule) : Type 0 where

@@ -1,12 +1,12 @@
 -- The factored grammar has the texts and the viable prefixes of the grammar that nests at most as deep.
-use Rattle.std.proofs.Common.{◌≡◌, ℕ, zero, suc, ◌<◌, ◌≤◌, Bool, true, false, List, refl, arith, inl, inr, ◌⊎◌}
+use Rattle.std.proofs.Common.{◌≡◌, ℕ, zero, suc, ◌≤◌, Bool, true, false, refl, arith, inl, inr, ◌⊎◌}
 use Rattle.std.specs.Prelude.{◌==◌, ◌||◌}
 use Rattle.contract_words.specs.Grammar.{Rule, nothing, byte, alt, seq, many}
 use Rattle.ottl_lex.specs.Codes.{lower, upper, quoted, digits, hex, where_word, not_word, true_word, false_word, nil_word}
 use Rattle.ottl_parse.specs.Grammar.{one, optional, comma_list, never, Opens, enclosed, is_literal_word, number_rule, literal_rule, key_rule, path_rule, call_rule, part_rule, primary_rule, product_rule, sum_rule, is_comparison_sign, comparison_rule, not_rule, and_rule, expr_rule, negation_rule, condition_rule, statement_rule}
 use Rattle.ottl_parse.specs.Reading.{is_product_sign, is_sum_sign}
-use Rattle.statement_laws.proofs.Factored.{gate, opens, closed, signed, literal, further, arguments, named, group, list, pairs, primary, negated, negation, condition, call, statement}
-use Rattle.statement_laws.proofs.Growing.{Grows, same, then, both, cases, on-left, on-right, either-way, each-turn, more-bytes, two-kinds, no-texts, nothing-before, nothing-behind, choice-before, regrouped}
+use Rattle.statement_laws.proofs.Factored.{opens, closed, signed, literal, further, arguments, named, group, list, pairs, primary, negated, negation, condition, call, statement}
+use Rattle.statement_laws.proofs.Growing.{Grows, same, then, both, cases, on-left, on-right, either-way, each-turn, two-kinds, no-texts, nothing-before, nothing-behind, choice-before, regrouped}
 
 two-ways : (a b : Bool) → (a || b) ≡ true → (a ≡ true) ⊎ (b ≡ true)
 two-ways true b h = inl refl

@@ -2,9 +2,8 @@
 use Rattle.std.proofs.Common.{◌≡◌, ◌∙◌, ℕ, ◌+◌, ◌<◌, ◌≤◌, Bool, true, false, List, [], ◌∷◌, ◌++◌, length, take, drop, Result, Ok, Err, inl, inr, refl, sym, ap, subst, arith, append-nil}
 use Rattle.std.proofs.lemmas.List.{length-map}
 use Rattle.ottl_lex.specs.Codes.{code_of}
-use Rattle.contract_words.specs.Fronts.{IsLongest}
 use Rattle.contract_words.specs.Grammar.{Rule, spells, viable}
-use Rattle.contract_words.specs.Rows.{viable_row, spells_row, fits_row, run, stop}
+use Rattle.contract_words.specs.Rows.{viable_row, fits_row, run, stop}
 use Rattle.contract_words.proofs.Longest.{longest}
 use Rattle.contract_words.proofs.Machine.{run-stop}
 use Rattle.contract_words.proofs.Viable.{spelled_viable}
@@ -22,7 +21,7 @@ use Rattle.ottl_parse.specs.Parsing.{at_end, parsed, check_statement, check_cond
 use Rattle.ottl_parse.specs.Place.{Rest, place_of}
 use Rattle.ottl_parse.specs.Reading.{Reads}
 use Rattle.ottl_parse.proofs.Spelled.{statement-faults, condition-faults}
-use Rattle.statement_laws.specs.Whole.{BeginsStatement, BeginsCondition, IsBehindLongest, IsRead, SpelledIsRead, UnexpectedIsBehindLongest}
+use Rattle.statement_laws.specs.Whole.{BeginsStatement, BeginsCondition, IsRead, SpelledIsRead, UnexpectedIsBehindLongest}
 use Rattle.statement_laws.proofs.Contents.{no-bad-contents}
 use Rattle.statement_laws.proofs.Factored.{statement, condition}
 use Rattle.statement_laws.proofs.Fitting.{statement-fits, condition-fits}

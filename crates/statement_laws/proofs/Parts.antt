@@ -1,8 +1,7 @@
 -- Each reading of a part that has no constructs goes beside the run of the part's rule.
-use Rattle.std.proofs.Common.{◌≡◌, ◌∙◌, ℕ, zero, suc, ◌+◌, ◌<◌, ◌≤◌, Bool, true, false, List, [], ◌∷◌, ◌++◌, length, drop, Option, Some, None, Result, Ok, Err, refl, sym, ap, subst, arith, cond}
-use Rattle.std.specs.Prelude.{◌==◌, ◌||◌, ◌&&◌}
+use Rattle.std.proofs.Common.{◌≡◌, ◌∙◌, ℕ, zero, suc, ◌+◌, ◌<◌, ◌≤◌, Bool, true, false, List, [], ◌∷◌, ◌++◌, length, drop, Option, Some, None, Result, Ok, Err, refl, sym, ap, arith, cond}
+use Rattle.std.specs.Prelude.{◌==◌, ◌||◌}
 use Rattle.std.specs.Str.{is_utf8}
-use Rattle.std.proofs.lemmas.Bool.Decides.{nat_tests}
 use Rattle.contract_words.specs.Grammar.{Rule, nothing, byte, alt, seq, many, nullable, first, after}
 use Rattle.contract_words.specs.Rows.{step, run, row_nullable, taken}
 use Rattle.contract_words.proofs.Machine.{run-steps, run-seq, run-nothing, step-right, step-turn, step-end}
@@ -17,10 +16,9 @@ use Rattle.ottl_parse.specs.Grammar.{codes_of, one}
 use Rattle.ottl_parse.specs.Place.{Rest, head_of, head, place, slice, past}
 use Rattle.ottl_parse.specs.Reading as reading
 use Rattle.ottl_parse.specs.Reading.{Reads, with_front, pieces, make}
-use Rattle.ottl_parse.specs.declared.expr.Expr.{Expr}
 use Rattle.ottl_parse.specs.declared.expr.ExprKind.{ExprKind}
 use Rattle.statement_laws.proofs.Factored.{signed, literal}
-use Rattle.statement_laws.proofs.Runs.{codes, ahead, Goes, Stops, Cites, Fails, Follows, here, behind, follows-then, bind, bind-stays, stays, same-run, less, either, goes-shorter}
+use Rattle.statement_laws.proofs.Runs.{codes, ahead, Goes, Stops, Cites, Fails, Follows, here, behind, follows-then, bind-stays, stays, same-run, less, either, goes-shorter}
 
 -- The run of rows that step alike at the next token.
 pub run-at : (rs ss : List Rule) (r : Rest) → row_nullable rs ≡ row_nullable ss → step rs (head r) ≡ step ss (head r) → run rs (codes r) ≡ run ss (codes r)

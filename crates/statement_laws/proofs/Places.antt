@@ -1,5 +1,5 @@
 -- Tokens further on stand further on.
-use Rattle.std.proofs.Common.{◌≡◌, ℕ, zero, suc, ◌+◌, ◌-◌, ◌<◌, ◌≤◌, List, [], ◌∷◌, length, drop, Ok, ◌⊎◌, inl, inr, arith}
+use Rattle.std.proofs.Common.{◌≡◌, ℕ, zero, suc, ◌-◌, ◌<◌, ◌≤◌, List, [], ◌∷◌, length, drop, Ok, ◌⊎◌, inl, inr, arith}
 use Rattle.ottl_lex.specs.Table.{AreTokens}
 use Rattle.ottl_lex.specs.Tokens.{tokens_of}
 use Rattle.ottl_lex.specs.declared.token.Token.{Token}

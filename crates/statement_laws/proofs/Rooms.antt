@@ -1,8 +1,8 @@
 -- Readings of statements and conditions go beside the runs of their rules.
-use Rattle.std.proofs.Common.{◌≡◌, ◌∙◌, ℕ, zero, suc, ◌+◌, ◌<◌, Bool, true, false, List, [], ◌∷◌, length, Result, Ok, Err, refl, sym, ap, arith, cond}
+use Rattle.std.proofs.Common.{◌≡◌, ◌∙◌, ℕ, zero, suc, ◌+◌, ◌<◌, Bool, true, false, List, [], ◌∷◌, length, Result, Ok, Err, refl, ap, arith, cond}
 use Rattle.std.specs.Prelude.{◌==◌, ◌||◌}
 use Rattle.std.proofs.lemmas.Bool.Decides.{nat_tests}
-use Rattle.contract_words.specs.Grammar.{Rule, nothing, byte, alt, seq}
+use Rattle.contract_words.specs.Grammar.{Rule, nothing, alt, seq}
 use Rattle.contract_words.specs.Rows.{run}
 use Rattle.contract_words.proofs.Machine.{run-seq, run-nothing}
 use Rattle.ottl_lex.specs.Codes.{lower, upper, where_word}
@@ -10,15 +10,14 @@ use Rattle.ottl_lex.specs.Quoted.{◌>>=◌}
 use Rattle.ottl_lex.specs.declared.fault.SyntaxFault.{SyntaxFault}
 use Rattle.ottl_lex.specs.declared.fault.SyntaxKind.TheVariants.{Unexpected}
 use Rattle.ottl_lex.specs.declared.token.Token.{Token}
-use Rattle.ottl_parse.specs.Checks.{Checked}
-use Rattle.ottl_parse.specs.Grammar.{codes_of, one, optional, never, expr_rule}
+use Rattle.ottl_parse.specs.Grammar.{codes_of, one, optional, never}
 use Rattle.ottl_parse.specs.Parsing as parsing
 use Rattle.ottl_parse.specs.Parsing.{max_open, at_end}
 use Rattle.ottl_parse.specs.Place.{Rest, head, place, slice, past}
 use Rattle.ottl_parse.specs.Reading as reading
 use Rattle.ottl_parse.specs.Reading.{Reads, inside_of}
 use Rattle.statement_laws.proofs.Factored.{opens, closed, arguments, negation, condition, call, statement}
-use Rattle.statement_laws.proofs.Runs.{codes, ahead, Goes, Stops, Fails, Follows, here, behind, goes-then, follows-then, bind, bind-stays, stays, same-run, less, either}
+use Rattle.statement_laws.proofs.Runs.{codes, ahead, Goes, Fails, Follows, here, behind, goes-then, follows-then, bind, bind-stays, stays, same-run, less, either}
 use Rattle.statement_laws.proofs.Parts.{run-left, run-right, or-none, takes, refuses, stopped, in-seq, absent}
 use Rattle.statement_laws.proofs.Constructs.{call-follows, negation-follows, disjunction-follows}
 

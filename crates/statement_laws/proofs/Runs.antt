@@ -1,5 +1,5 @@
 -- How a reading goes on beside the run of a row of rules.
-use Rattle.std.proofs.Common.{◌≡◌, ◌∙◌, ℕ, ◌+◌, ◌<◌, ◌≤◌, Bool, true, false, List, [], ◌∷◌, length, drop, Result, Ok, Err, refl, sym, ap, subst, arith, cond, length-drop}
+use Rattle.std.proofs.Common.{◌≡◌, ◌∙◌, ℕ, ◌+◌, ◌<◌, ◌≤◌, Bool, true, false, List, length, drop, Result, Ok, Err, refl, sym, ap, subst, arith, cond, length-drop}
 use Rattle.std.proofs.lemmas.List.{drop-drop}
 use Rattle.contract_words.specs.Grammar.{Rule}
 use Rattle.contract_words.specs.Rows.{run}
