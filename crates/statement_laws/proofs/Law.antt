@@ -21,9 +21,10 @@ use Rattle.ottl_parse.specs.Parsing.{at_end, parsed, check_statement, check_cond
 use Rattle.ottl_parse.specs.Place.{Rest, place_of}
 use Rattle.ottl_parse.specs.Reading.{Reads}
 use Rattle.ottl_parse.proofs.Spelled.{statement-faults, condition-faults}
-use Rattle.statement_laws.specs.Whole.{BeginsStatement, BeginsCondition, IsRead, SpelledIsRead, UnexpectedIsBehindLongest}
+use Rattle.statement_laws.specs.Whole.{BeginsStatement, BeginsCondition, IsBehindLongest, IsWithinGrammar, IsParsed, SpelledIsParsed, UnexpectedIsBehindLongest}
 use Rattle.statement_laws.proofs.Contents.{no-bad-contents}
 use Rattle.statement_laws.proofs.Factored.{statement, condition}
+use Rattle.statement_laws.proofs.Fine.{Fine, IsWanted, statement-fine, condition-fine}
 use Rattle.statement_laws.proofs.Fitting.{statement-fits, condition-fits}
 use Rattle.statement_laws.proofs.Grown.{statement-grows, condition-grows}
 use Rattle.statement_laws.proofs.Growing.{Grows}
@@ -45,20 +46,46 @@ module _ {X : Type 0} (read : Rest → Reads X) (well : X → Checked) where
   lexed-checks : (text : List ℕ) (tokens : List Token) → tokens_of text ≡ Ok tokens → parsed read well text ≡ checks (record { text = text; left = tokens })
   lexed-checks text tokens lexed = ap (λ (m : Result (List Token) SyntaxFault). m >>= λ ts. checks (record { text = text; left = ts })) lexed
 
-  -- what is read is checked
-  checked : (m : Reads X) (x : X) → (m >>= λ p. at_end p.1 >>= λ _. Ok p.0) ≡ Ok x → (m >>= λ p. at_end p.1 >>= λ _. well p.0 >>= λ _. Ok p.0) ≡ (well x >>= λ _. Ok x)
-  checked (Err e) x is = absurd (cc)
-  checked (Ok p) x is = by (at_end p.1) is where
-    by : (m : Checked) → (m >>= λ _. Ok p.0) ≡ Ok x → (m >>= λ _. well p.0 >>= λ _. Ok p.0) ≡ (well x >>= λ _. Ok x)
-    by (Err e) e_is = absurd (cc)
-    by (Ok u) p_is = let same : p.0 ≡ x = cc in ap (λ (y : X). well y >>= λ _. Ok y) same
+  -- behind reading stand checks, which find no fault but theirs
+  module _ (fine : (x : X) → Fine (well x)) where
+    wanted-within : (x : X) (m : Checked) → Fine m → IsParsed (m >>= λ _. Ok x)
+    wanted-within x (Ok u) h = tt
+    wanted-within x (Err e) h = by e.kind h where
+      by : (kind : SyntaxKind) → IsWanted kind → IsWithinGrammar kind
+      by ConditionWanted k = tt
+      by ValueWanted k = tt
+      by BadChar k = absurd k
+      by OpenText k = absurd k
+      by BadEscape k = absurd k
+      by NotUtf8 k = absurd k
+      by Fraction k = absurd k
+      by BadNumber k = absurd k
+      by Wide k = absurd k
+      by Unexpected k = absurd k
+      by TooDeep k = absurd k
 
-  failed : (m : Reads X) (e : SyntaxFault) → (m >>= λ p. at_end p.1 >>= λ _. Ok p.0) ≡ Err e → (m >>= λ p. at_end p.1 >>= λ _. well p.0 >>= λ _. Ok p.0) ≡ Err e
-  failed (Err d) e is = is
-  failed (Ok p) e is = by (at_end p.1) is where
-    by : (m : Checked) → (m >>= λ _. Ok p.0) ≡ Err e → (m >>= λ _. well p.0 >>= λ _. Ok p.0) ≡ Err e
-    by (Err d) d_is = d_is
-    by (Ok u) p_is = absurd (cc)
+    whole-parsed : (m : Reads X) → IsParsed (m >>= λ p. at_end p.1 >>= λ _. Ok p.0) → IsParsed (m >>= λ p. at_end p.1 >>= λ _. well p.0 >>= λ _. Ok p.0)
+    whole-parsed (Err e) h = h
+    whole-parsed (Ok p) h = by (at_end p.1) h where
+      by : (m : Checked) → IsParsed (m >>= λ _. Ok p.0) → IsParsed (m >>= λ _. well p.0 >>= λ _. Ok p.0)
+      by (Err e) k = k
+      by (Ok u) k = wanted-within p.0 (well p.0) (fine p.0)
+
+    unexpected-checks : (at : ℕ) (x : X) (m : Checked) → Fine m → (m >>= λ _. Ok x) ≡ Err (fault Unexpected at) → ⊥
+    unexpected-checks at x (Ok u) h is = cc
+    unexpected-checks at x (Err e) h is = let same : e ≡ fault Unexpected at = cc in subst (λ (f : SyntaxFault). IsWanted f.kind) same h
+
+    unexpected-read : (at : ℕ) (m : Reads X) → (m >>= λ p. at_end p.1 >>= λ _. well p.0 >>= λ _. Ok p.0) ≡ Err (fault Unexpected at) → (m >>= λ p. at_end p.1 >>= λ _. Ok p.0) ≡ Err (fault Unexpected at)
+    unexpected-read at (Err e) is = is
+    unexpected-read at (Ok p) is = by (at_end p.1) is where
+      by : (m : Checked) → (m >>= λ _. well p.0 >>= λ _. Ok p.0) ≡ Err (fault Unexpected at) → (m >>= λ _. Ok p.0) ≡ Err (fault Unexpected at)
+      by (Err e) e_is = e_is
+      by (Ok u) u_is = absurd (unexpected-checks at p.0 (well p.0) (fine p.0) u_is)
+
+    -- a fault of the grammar is found in reading
+    read-unexpected : (text : List ℕ) (tokens : List Token) (at : ℕ) → tokens_of text ≡ Ok tokens → parsed read well text ≡ Err (fault Unexpected at) → read_whole read text ≡ Err (fault Unexpected at)
+    read-unexpected text tokens at lexed is =
+        lexed-reads text tokens lexed ∙ unexpected-read at (read (record { text = text; left = tokens })) (sym (lexed-checks text tokens lexed) ∙ is)
 
   module _ (rule factored : Rule) (fits : fits_row (factored ∷ [])) (grows : Grows rule factored)
       (judges : (start : Rest) → Judged false (run (factored ∷ []) (codes start)) start (reads start)) where
@@ -81,17 +108,14 @@ module _ {X : Type 0} (read : Rest → Reads X) (well : X → Checked) where
     only-wide ConditionWanted at text tokens lexed ends h = absurd (no-bad-contents text tokens (record { kind = ConditionWanted; at = at }) lexed h)
     only-wide ValueWanted at text tokens lexed ends h = absurd (no-bad-contents text tokens (record { kind = ValueWanted; at = at }) lexed h)
 
-    pub spelled-read : SpelledIsRead (parsed read well) well rule
-    spelled-read text tokens lexed spelled =
+    spelled-parsed : ((x : X) → Fine (well x)) → SpelledIsParsed (parsed read well) rule
+    spelled-parsed fine text tokens lexed spelled =
         let start : Rest = record { text = text; left = tokens } in
-        by (reads start) refl (judges start)
+        subst (λ (m : Result X SyntaxFault). IsParsed m) (sym (lexed-checks text tokens lexed)) (whole-parsed fine (read start) (by (reads start) (judges start)))
       where
-        by : (m : Result X SyntaxFault) → reads (record { text = text; left = tokens }) ≡ m → Judged false (run (factored ∷ []) (codes_of text tokens)) (record { text = text; left = tokens }) m
-            → IsRead (parsed read well) well text
-        by (Ok x) is h = inl (x, lexed-checks text tokens lexed ∙ checked (read (record { text = text; left = tokens })) x is)
-        by (Err e) is h =
-            let wide : e.kind ≡ Wide = only-wide e.kind e.at text tokens lexed (ends-well text tokens spelled) h in
-            inr (e.at, lexed-checks text tokens lexed ∙ failed (read (record { text = text; left = tokens })) e is ∙ ap (λ (k : SyntaxKind). Err (fault k e.at)) wide)
+        by : (m : Result X SyntaxFault) → Judged false (run (factored ∷ []) (codes_of text tokens)) (record { text = text; left = tokens }) m → IsParsed m
+        by (Ok x) h = tt
+        by (Err e) h = subst IsWithinGrammar (sym (only-wide e.kind e.at text tokens lexed (ends-well text tokens spelled) h)) tt
 
 -- Fronts.
 one-row : (rule : Rule) (text : List ℕ) → viable_row (rule ∷ []) text → viable rule text
@@ -114,46 +138,49 @@ module _ {X : Type 0} (read : Rest → Reads X) (rule factored : ℕ → Rule) (
       let no_later : stops.count ≤ count = one-token text tokens stops.count count lexed stop_within (there ∙ placed) in
       all.no_longer more (omega (arith, at_stop, no_later, above)) enough (inl h)
 
-  pub unexpected-behind : UnexpectedIsBehindLongest read whole (λ codes. (room : ℕ) × viable (rule room) codes)
+  unexpected-behind : (text : List ℕ) (tokens : List Token) (at : ℕ) → tokens_of text ≡ Ok tokens → read_whole read text ≡ Err (fault Unexpected at)
+      → IsBehindLongest (λ codes. (room : ℕ) × viable (rule room) codes) text tokens at
   unexpected-behind text tokens at lexed is =
       let start : Rest = record { text = text; left = tokens } in
-      let both = known text tokens (fault Unexpected at) lexed is in
-      let begun : IsBegun (rule least) text tokens at = both.1 tt in
+      let begun : IsBegun (rule least) text tokens at = (known text tokens (fault Unexpected at) lexed is).1 tt in
       let is_read : (read start >>= λ p. at_end p.1 >>= λ _. Ok p.0) ≡ Err (fault Unexpected at) =
-      sym (ap (λ (m : Result (List Token) SyntaxFault). m >>= λ ts. read (record { text = text; left = ts }) >>= λ p. at_end p.1 >>= λ _. Ok p.0) lexed) ∙ is in (
-        both.0,
-        record {
-          count = begun.count;
-          placed = begun.placed;
-          longest = record {
-            within = omega (arith, begun.within, length-map tokens (code_of text));
-            begun = (least, begun.begun);
-            no_longer = λ more above enough h.
-                let depth : ℕ = least + 1 + h.0 in
-                let stops : Stops (run (factored depth ∷ []) (codes start)) start at = subst (Judged {X = X} true (run (factored depth ∷ []) (codes start)) start) is_read (judges depth (omega arith) start) in
-                no-longer text tokens at begun.count lexed begun.within begun.placed depth stops more above enough ((grows h.0 depth (omega arith)).begun (take more (codes_of text tokens)) h.1);
-          };
-        },
-      )
+      sym (ap (λ (m : Result (List Token) SyntaxFault). m >>= λ ts. read (record { text = text; left = ts }) >>= λ p. at_end p.1 >>= λ _. Ok p.0) lexed) ∙ is in
+      record {
+        count = begun.count;
+        placed = begun.placed;
+        longest = record {
+          within = omega (arith, begun.within, length-map tokens (code_of text));
+          begun = (least, begun.begun);
+          no_longer = λ more above enough h.
+              let depth : ℕ = least + 1 + h.0 in
+              let stops : Stops (run (factored depth ∷ []) (codes start)) start at = subst (Judged {X = X} true (run (factored depth ∷ []) (codes start)) start) is_read (judges depth (omega arith) start) in
+              no-longer text tokens at begun.count lexed begun.within begun.placed depth stops more above enough ((grows h.0 depth (omega arith)).begun (take more (codes_of text tokens)) h.1);
+        };
+      }
 
-pub statements-read : SpelledIsRead statement_of check_statement (statement_rule 63)
+-- Whole statements and conditions.
+pub statements-parsed : SpelledIsParsed statement_of (statement_rule 63)
 unfolding statement_of
-statements-read =
-    spelled-read parsing.statement check_statement (statement_rule 63) (statement 63) (statement-fits 63) (statement-grows 63 63 (omega arith))
-    (judged false parsing.statement (statement 63) (statement-follows false 63 refl))
+statements-parsed =
+    spelled-parsed parsing.statement check_statement (statement_rule 63) (statement 63) (statement-fits 63) (statement-grows 63 63 (omega arith))
+    (judged false parsing.statement (statement 63) (statement-follows false 63 refl)) statement-fine
 
-pub conditions-read : SpelledIsRead condition_of check_condition (condition_rule 64)
+pub conditions-parsed : SpelledIsParsed condition_of (condition_rule 64)
 unfolding condition_of
-conditions-read =
-    spelled-read parsing.condition check_condition (condition_rule 64) (condition 64) (condition-fits 64) (condition-grows 64 64 (omega arith))
-    (judged false parsing.condition (condition 64) (condition-follows false 64 refl))
+conditions-parsed =
+    spelled-parsed parsing.condition check_condition (condition_rule 64) (condition 64) (condition-fits 64) (condition-grows 64 64 (omega arith))
+    (judged false parsing.condition (condition 64) (condition-follows false 64 refl)) condition-fine
 
-pub statement-fronts : UnexpectedIsBehindLongest parsing.statement statement_of BeginsStatement
-statement-fronts =
+pub statement-fronts : UnexpectedIsBehindLongest statement_of BeginsStatement
+unfolding statement_of
+statement-fronts text tokens at lexed is =
     unexpected-behind parsing.statement statement_rule statement 63 statement_of statement-fits statement-grows
     (λ depth deep. judged true parsing.statement (statement depth) (statement-follows true depth deep)) statement-faults
+    text tokens at lexed (read-unexpected parsing.statement check_statement statement-fine text tokens at lexed is)
 
-pub condition-fronts : UnexpectedIsBehindLongest parsing.condition condition_of BeginsCondition
-condition-fronts =
+pub condition-fronts : UnexpectedIsBehindLongest condition_of BeginsCondition
+unfolding condition_of
+condition-fronts text tokens at lexed is =
     unexpected-behind parsing.condition condition_rule condition 64 condition_of condition-fits condition-grows
     (λ depth deep. judged true parsing.condition (condition depth) (condition-follows true depth deep)) condition-faults
+    text tokens at lexed (read-unexpected parsing.condition check_condition condition-fine text tokens at lexed is)

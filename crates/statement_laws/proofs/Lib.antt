@@ -8,4 +8,5 @@ pub mod Growing
 pub mod Grown
 pub mod Places
 pub mod Contents
+pub mod Fine
 pub mod Law

@@ -3,7 +3,7 @@
 
 mod laws;
 
-pub use laws::{unexpected_stands_behind_the_longest_prefix, what_is_spelled_is_read};
+pub use laws::{unexpected_stands_behind_the_longest_prefix, what_is_spelled_is_parsed};
 
 #[cfg(test)]
 mod tests;

@@ -1,6 +1,6 @@
 //! Laws beside the parser's answers.
 
-use crate::{unexpected_stands_behind_the_longest_prefix, what_is_spelled_is_read};
+use crate::{unexpected_stands_behind_the_longest_prefix, what_is_spelled_is_parsed};
 use ottl_lex::{MAX_TEXT, SyntaxStop};
 use ottl_parse::{parse_condition, parse_statement};
 use std::alloc::{AllocError, Global};
@@ -32,7 +32,7 @@ fn condition_fault(alloc: Global, text: &str) -> Result<String, Fail> {
 
 #[test]
 fn what_the_grammar_spells_is_no_fault_of_it(rt: HostRuntime) -> Result<(), Fail> {
-    what_is_spelled_is_read();
+    what_is_spelled_is_parsed();
     for (text, want) in [
         ("set(body, -1 + +2 * a.b[\"c\"][0])", ""),
         (
