@@ -1,0 +1,12 @@
+pub mod Runs
+pub mod Factored
+pub mod Parts
+pub mod Constructs
+pub mod Rooms
+pub mod Fitting
+pub mod Growing
+pub mod Grown
+pub mod Places
+pub mod Contents
+pub mod Fine
+pub mod Law
