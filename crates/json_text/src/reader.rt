@@ -16,6 +16,9 @@ use item_list::ItemList;
 use pdata_value::{Spelling, Text};
 use std::alloc::Global;
 
+// A list that grows from nothing begins with room for four, which is too much memory for many small ones.
+const FIRST_ROOM: usize = 1;
+
 /// The value that the bytes spell. Lists and objects may nest `depth` deep.
 pub fn read(alloc: Global, bytes: &[u8], depth: u32) -> Result<Json, JsonFault>
     requires size { length bytes.now ≤ 16777216 }
@@ -83,10 +86,10 @@ fn items_of(alloc: Global, cursor: &mut Cursor<'_>, depth: u32) -> Result<Items,
         → Gives (λ found. (found, cursor.new)) fault_of result (sequence (value depth) 93 n cursor.old) }
     ensures shorter { OnOk result (length cursor.new.left < length cursor.old.left) }
 {
-    let mut found = ItemList::new(alloc);
     if is_closed(cursor, b']') {
-        return Ok(found);
+        return Ok(ItemList::new(alloc));
     }
+    let mut found = ItemList::with_capacity(alloc, FIRST_ROOM)?;
     'items: loop {
         found.push(value_of(alloc, cursor, depth)?)?;
         if !goes_on(cursor, b']')? {
@@ -102,10 +105,10 @@ fn members_of(alloc: Global, cursor: &mut Cursor<'_>, depth: u32) -> Result<Memb
         → Gives (λ found. (found, cursor.new)) fault_of result (sequence (member (value depth)) 125 n cursor.old) }
     ensures shorter { OnOk result (length cursor.new.left < length cursor.old.left) }
 {
-    let mut found = ItemList::new(alloc);
     if is_closed(cursor, b'}') {
-        return Ok(found);
+        return Ok(ItemList::new(alloc));
     }
+    let mut found = ItemList::with_capacity(alloc, FIRST_ROOM)?;
     'members: loop {
         found.push(member_of(alloc, cursor, depth)?)?;
         if !goes_on(cursor, b'}')? {

@@ -12,12 +12,12 @@ items_of-items-init t c =
     let stays = c.is_closed.ensures.goes_on c.if-is_closed.false in (
       c.is_closed.ensures.no_longer,
       λ n h.
-          rw c.new-found.ensures (ElementsSoFar-begin (value c.args.depth) 93 n c.args.cursor.now c.is_closed.new.cursor stays.1 stays.0 (omega (arith, c.is_closed.ensures.no_longer))),
+          rw c.in_ok-found.ensures (ElementsSoFar-begin (value c.args.depth) 93 n c.args.cursor.now c.is_closed.new.cursor stays.1 stays.0 (omega (arith, c.is_closed.ensures.no_longer))),
     )
 
 pub items_of-returns-in_err-value_of-clause-gives : goal.items_of-returns-in_err-value_of-clause-gives
 items_of-returns-in_err-value_of-clause-gives t c = λ n h.
-    let p = err_from_is_err_and c.from_residual.result c.from_residual.ensures.1 in
+    let p = err_from_is_err_and c.from_residual-in_err-value_of.result c.from_residual-in_err-value_of.ensures.1 in
     rw (p.1, p.2) (ElementsSoFar-fail (value c.args.depth) 93 n c.args.cursor.now c.items.cursor c.items.found _ (c.items.invariant.1 n h) c.in_err-value_of.ensures.gives)
 
 pub items_of-returns-in_err-goes_on-clause-gives : goal.items_of-returns-in_err-goes_on-clause-gives
@@ -45,12 +45,12 @@ members_of-members-init t c =
     let stays = c.is_closed.ensures.goes_on c.if-is_closed.false in (
       c.is_closed.ensures.no_longer,
       λ n h.
-          rw c.new-found.ensures (ElementsSoFar-begin (member (value c.args.depth)) 125 n c.args.cursor.now c.is_closed.new.cursor stays.1 stays.0 (omega (arith, c.is_closed.ensures.no_longer))),
+          rw c.in_ok-found.ensures (ElementsSoFar-begin (member (value c.args.depth)) 125 n c.args.cursor.now c.is_closed.new.cursor stays.1 stays.0 (omega (arith, c.is_closed.ensures.no_longer))),
     )
 
 pub members_of-returns-in_err-member_of-clause-gives : goal.members_of-returns-in_err-member_of-clause-gives
 members_of-returns-in_err-member_of-clause-gives t c = λ n h.
-    let p = err_from_is_err_and c.from_residual.result c.from_residual.ensures.1 in
+    let p = err_from_is_err_and c.from_residual-in_err-member_of.result c.from_residual-in_err-member_of.ensures.1 in
     rw (p.1, p.2) (ElementsSoFar-fail (member (value c.args.depth)) 125 n c.args.cursor.now c.members.cursor c.members.found _ (c.members.invariant.1 n h) c.in_err-member_of.ensures.gives)
 
 pub members_of-returns-in_err-goes_on-clause-gives : goal.members_of-returns-in_err-goes_on-clause-gives
