@@ -23,7 +23,8 @@ use Rattle.collector.specs.Meaning.{Texts, Meaning}
 use Rattle.collector.specs.declared.status.Status.{Status}
 use Rattle.collector.specs.declared.status.Status.TheVariants.{ReadFault, NoMemory, TooLong}
 
--- the configuration of these bytes, whose exporters write to none of these names; or its first fault
+-- the configuration of these bytes, whose exporters write to none of these names; or its first
+-- fault
 unfoldable pub runnable : List (List ℕ) → List ℕ → Result Conf ConfFault
 runnable names bytes =
     conf_of bytes >>= λ conf. lifted (unless (files_fault names conf.meant.draft) conf)

@@ -47,7 +47,8 @@ pub(crate) fn write_summary<O: Sink>(summary: &[u8], refused: u128, out: &mut O)
 // The same of `pass`.
 fn sum_up<O: Sink>(alloc: Global, accepted: u32, refused: u32, out: &mut O) -> Status
     requires { accepted + refused ≤ max_lines }
-    ensures { SumsUp result (summary_by accepted refused) refused (O.seen out.old) (O.seen out.new) }
+    ensures { SumsUp result (summary_by accepted refused) refused (O.seen out.old)
+        (O.seen out.new) }
 {
     let payloads = accepted + refused;
     match format!(in alloc; "payloads {payloads} accepted {accepted} refused {refused}\n") {

@@ -39,6 +39,7 @@ Tells NoMemory g = ⊤
 
 infixl 10 ◌>>=◌
 -- what follows, where there is no fault before it
-abbrev pub ◌>>=◌ : {X Y : Type 0} → Result X ConfFault → (X → Result Y ConfFault) → Result Y ConfFault
+abbrev pub ◌>>=◌ : {X Y : Type 0} → Result X ConfFault → (X → Result Y ConfFault)
+    → Result Y ConfFault
 Ok x >>= go = go x
 Err f >>= go = Err f

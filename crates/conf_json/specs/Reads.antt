@@ -9,6 +9,8 @@ use Rattle.conf_json.specs.Settings.{settings_of}
 -- settings of these bytes, and the maker refused nothing; or their first fault; or a pattern was
 -- refused for its size, and the maker's count rose; want of memory is free
 abbrev pub Reads : ℕ → ℕ → Result (List ℕ) ConfStop → List ℕ → Type 0
-Reads before now (Ok settings) bytes = (settings ≡ bytes) × IsOk (settings_of bytes) × (now ≡ before)
-Reads before now (Err (Fault f)) bytes = (settings_of bytes ≡ Err f) ⊎ (IsSize f.inner × Rose before now)
+Reads before now (Ok settings) bytes =
+    (settings ≡ bytes) × IsOk (settings_of bytes) × (now ≡ before)
+Reads before now (Err (Fault f)) bytes =
+    (settings_of bytes ≡ Err f) ⊎ (IsSize f.inner × Rose before now)
 Reads before now (Err NoMemory) bytes = ⊤

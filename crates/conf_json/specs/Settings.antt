@@ -1,4 +1,5 @@
--- The settings that the bytes of a configuration spell, or their first fault apart from those of legs.
+-- The settings that the bytes of a configuration spell, or their first fault apart from those of
+-- legs.
 use Rattle.std.specs.Prelude.{ℕ, List, Result, Ok}
 use Rattle.conf_draft.specs.declared.draft.Draft.{Draft}
 use Rattle.conf_draft.specs.Drafted.{drafted}

@@ -18,7 +18,8 @@ pub enum Inner {
     Plan(PlanFault),
 }
 
-/// A fault, and its place as a JSON Pointer (RFC 6901). A `BadStatement` says what is wrong with it.
+/// A fault, and its place as a JSON Pointer (RFC 6901). A `BadStatement` says what is wrong with
+/// it.
 #[derive(Drop)]
 pub struct ConfFault {
     pub kind: FaultKind,

@@ -27,8 +27,10 @@ abbrev pub viable : Rule → List ℕ → Type 0
 viable nothing text = text ≡ []
 viable (byte p) text = (text ≡ []) ⊎ ((b : ℕ) × IsTrue (p b) × (text ≡ b ∷ []))
 viable (alt l r) text = viable l text ⊎ viable r text
-viable (seq l r) text = viable l text ⊎ ((x : List ℕ) × (y : List ℕ) × spells l x × viable r y × (text ≡ x ++ y))
-viable (many a) text = (n : ℕ) × (x : List ℕ) × (y : List ℕ) × Turns (spells a) n x × viable a y × (text ≡ x ++ y)
+viable (seq l r) text =
+    viable l text ⊎ ((x : List ℕ) × (y : List ℕ) × spells l x × viable r y × (text ≡ x ++ y))
+viable (many a) text =
+    (n : ℕ) × (x : List ℕ) × (y : List ℕ) × Turns (spells a) n x × viable a y × (text ≡ x ++ y)
 
 -- the text may be empty
 abbrev pub nullable : Rule → Bool

@@ -5,7 +5,8 @@ use Rattle.contract_words.specs.Grammar.{Rule, nothing, byte, alt, seq, many, sp
 -- a viable prefix of rules in a row
 abbrev pub viable_row : List Rule → List ℕ → Type 0
 viable_row [] text = text ≡ []
-viable_row (r ∷ rs) text = viable r text ⊎ ((x : List ℕ) × (y : List ℕ) × spells r x × viable_row rs y × (text ≡ x ++ y))
+viable_row (r ∷ rs) text =
+    viable r text ⊎ ((x : List ℕ) × (y : List ℕ) × spells r x × viable_row rs y × (text ≡ x ++ y))
 
 -- whether a byte may be the first of what rules in a row spell
 abbrev pub row_first : List Rule → ℕ → Bool
@@ -31,12 +32,14 @@ fits (many a) next = (nullable a ≡ false) × fits a (λ b. first a b || next b
 -- each rule of a row can be told from what follows it by one byte
 abbrev pub fits_row : List Rule → Type 0
 fits_row [] = Unit {0}
-fits_row (r ∷ rs) = fits r (row_first rs) × (nullable r ≡ true → Apart (first r) (row_first rs)) × fits_row rs
+fits_row (r ∷ rs) =
+    fits r (row_first rs) × (nullable r ≡ true → Apart (first r) (row_first rs)) × fits_row rs
 
 -- the row after a byte, if it takes the byte
 abbrev pub step : List Rule → ℕ → Option (List Rule)
 step [] b = None
-step (r ∷ rs) b = if first r b then Some (after r b ++ rs) else (if nullable r then step rs b else None)
+step (r ∷ rs) b =
+    if first r b then Some (after r b ++ rs) else (if nullable r then step rs b else None)
 
 -- how many bytes the row takes
 abbrev pub one_more : Option (List Rule) → (List Rule → ℕ) → ℕ
@@ -51,7 +54,8 @@ stop rs (b ∷ text) = one_more (step rs b) (λ ss. stop ss text)
 -- the rules spell the text, one after another
 abbrev pub spells_row : List Rule → List ℕ → Type 0
 spells_row [] text = text ≡ []
-spells_row (r ∷ rs) text = (x : List ℕ) × (y : List ℕ) × spells r x × spells_row rs y × (text ≡ x ++ y)
+spells_row (r ∷ rs) text =
+    (x : List ℕ) × (y : List ℕ) × spells r x × spells_row rs y × (text ≡ x ++ y)
 
 -- a row that may spell the empty text
 abbrev pub row_nullable : List Rule → Bool

@@ -82,7 +82,8 @@ fn plus_files(
     Ok(sums)
 }
 
-/// The totals of both, which are of one configuration. A sum past 128 bits counts as want of memory.
+/// The totals of both, which are of one configuration. A sum past 128 bits counts as want of
+/// memory.
 pub fn plus_totals(alloc: Global, a: &Totals, b: &Totals) -> Result<Totals, AllocError>
     ensures { IfOk result (λ sum. sum ≡ spec.plus_totals a.now b.now) }
 {

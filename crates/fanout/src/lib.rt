@@ -8,8 +8,8 @@ ghost use Rattle.share_cow.specs.Store.{IsLiveRoot, spare};
 use share_cow::{Forest, Root, Roots};
 use std::alloc::Global;
 
-/// As many roots for the root's tree as there are takers, the root itself among them. Without takers
-/// the root is given up. It makes no node; where memory runs out the root comes back.
+/// As many roots for the root's tree as there are takers, the root itself among them. Without
+/// takers the root is given up. It makes no node; where memory runs out the root comes back.
 pub fn hand_on(alloc: Global, forest: &mut Forest, root: Root, takers: u32) -> Result<Roots, Root>
     requires live { IsLiveRoot forest.old root }
     requires room { takers ≤ spare forest.old + 1 }

@@ -31,7 +31,8 @@ module _ {T : Type 0} (ops : TreeOps T PathTo) where
       account
 
   -- whether each of the log records stays, judged in order
-  abbrev pub flags_of : FilterSettings → T → List Place → Account → Result (List Bool × Account) Note
+  abbrev pub flags_of : FilterSettings → T → List Place → Account
+      → Result (List Bool × Account) Note
   flags_of settings tree [] account = Ok ([], account)
   flags_of settings tree (p ∷ ps) account =
       dropped settings tree p account

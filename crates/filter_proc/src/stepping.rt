@@ -29,10 +29,10 @@ struct Site<'a, 'p> {
     root: &'a Root,
 }
 
-/// Does the steps of the processor that the cursor has left on a root's tree, with the matchers that
-/// are kept, until it is at its end: each log record is judged, and the last step drops those on
-/// which a condition holds, and then scopes and resources without log records. A run that fails is
-/// at its end, with the tree as it was.
+/// Does the steps of the processor that the cursor has left on a root's tree, with the matchers
+/// that are kept, until it is at its end: each log record is judged, and the last step drops those
+/// on which a condition holds, and then scopes and resources without log records. A run that fails
+/// is at its end, with the tree as it was.
 pub fn advance<'p>(
     alloc: Global,
     settings: &'p FilterSettings,

@@ -51,8 +51,8 @@ text_or_bad (Err e) = Err BadText
 abbrev pub decode_of : Value → List ℕ → Result Value EvalErr
 decode_of value mode = text_in value >>= λ text. text_or_bad (base64_bytes standard text)
 
--- ParseJSON: the value of a text of JSON. A text past 16,777,216 bytes is Large; one that is no JSON of at most 64
--- containers deep is BadText.
+-- ParseJSON: the value of a text of JSON. A text past 16,777,216 bytes is Large; one that is no
+-- JSON of at most 64 containers deep is BadText.
 
 -- a text of JSON as a value, where it is one and fits
 abbrev pub json_or_bad : Result Json JsonFault → Result Value EvalErr

@@ -18,7 +18,8 @@ int_or_double numeral (Some int) = kind.Int int
 abbrev pub number_of : List ℕ → Value
 number_of numeral = int_or_double numeral (spelled_int numeral)
 
--- the value of one whose elements are these values: null is nil, and an object puts its members in order
+-- the value of one whose elements are these values: null is nil, and an object puts its members in
+-- order
 abbrev pub kind_step : JsonKind-F Value Value → Value
 kind_step JsonKind-F.Null = kind.Empty
 kind_step (JsonKind-F.Truth truth) = kind.Truth truth

@@ -22,7 +22,8 @@ const MAX_DEPTH: u32 = 64;
 // The members of an object whose keys are found by going through them.
 const MOST_SEARCHED: usize = 16;
 
-/// The value of a text of JSON. Integers that fit are integers, other numbers are doubles; null is nil.
+/// The value of a text of JSON. Integers that fit are integers, other numbers are doubles; null is
+/// nil.
 pub fn parse_json(alloc: Global, value: &Value) -> Result<Value, EvalStop>
     ensures { Answers result (parse_json_of value.now) }
 {

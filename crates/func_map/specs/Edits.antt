@@ -1,5 +1,5 @@
--- The editors, each as its row of the table of functions in docs/FUNCTIONS.md. An editor answers the
--- target's new value, or None where there is no action.
+-- The editors, each as its row of the table of functions in docs/FUNCTIONS.md. An editor answers
+-- the target's new value, or None where there is no action.
 use Rattle.std.specs.Prelude.{◌≡◌, ◌⊎◌, ℕ, not, cond, codes, List, [], filter, map, Option, Some, None, Result, Ok, Err}
 use Rattle.std.specs.Str.{bytes_eq}
 use Rattle.pdata_value.specs.Value.{pairs}
@@ -108,8 +108,8 @@ merge_maps_of target other strategy =
     target_in target >>= λ old. other_layer (out-Value other)
     >>= λ qs. changed (made (map_of (merged (strategy_of strategy) (or_empty old) qs)))
 
--- replace_all_patterns: in the mode `value` all matches in each text of the map are replaced. In the
--- mode `key` each pair, in order, is put under its replaced key into an empty map.
+-- replace_all_patterns: in the mode `value` all matches in each text of the map are replaced. In
+-- the mode `key` each pair, in order, is put under its replaced key into an empty map.
 
 -- a word that says what is replaced: `key` or `value`
 abbrev pub IsMode : List ℕ → Type 0

@@ -1,5 +1,5 @@
-//! Editors by keys that have a match. Each stands twice: with a pattern, for which it makes a matcher
-//! for the one call, and with a matcher that the caller keeps.
+//! Editors by keys that have a match. Each stands twice: with a pattern, for which it makes a
+//! matcher for the one call, and with a matcher that the caller keeps.
 
 ghost use Rattle.std.specs.Prelude.{◌≡◌, IfOk};
 ghost use Rattle.pdata_value.specs.Value.{pairs};

@@ -12,9 +12,9 @@ use crate::target::{new_map, target_in};
 use pdata_value::{EvalErr, EvalStop, Pairs, Strategy, Text, Value};
 use std::alloc::{AllocError, Global};
 
-/// The map with the pairs of another map put into it, as the strategy says: `insert` puts a key that
-/// the map didn't have at the start, `update` one that it had, `upsert` each. A target that is nil is
-/// the empty map.
+/// The map with the pairs of another map put into it, as the strategy says: `insert` puts a key
+/// that the map didn't have at the start, `update` one that it had, `upsert` each. A target that is
+/// nil is the empty map.
 pub fn merge_maps(
     alloc: Global,
     target: &Value,

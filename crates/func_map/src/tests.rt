@@ -1,5 +1,5 @@
-//! Rows of the table of functions. A map is noted as `k='a j=1 n=nil`, a double as `~1.5`, an error as
-//! `!KindOf`.
+//! Rows of the table of functions. A map is noted as `k='a j=1 n=nil`, a double as `~1.5`, an error
+//! as `!KindOf`.
 
 ghost use Rattle.func_map.specs.Edits.{IsMode, IsStrategy};
 

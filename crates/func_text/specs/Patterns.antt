@@ -13,7 +13,8 @@ abbrev pub within : ℕ → Option (Nested Re × Names) → Option (Re × Names)
 within limit None = None
 within limit (Some (re, names)) = if nat_le re.depth limit then Some (re.value, names) else None
 
--- the pattern that a text is read as, and the names of its groups; None where it is no pattern or nests too deep
+-- the pattern that a text is read as, and the names of its groups; None where it is no pattern or
+-- nests too deep
 unfoldable pub pattern_of : List ℕ → Option (Re × Names)
 pattern_of source = within default_config.nest_limit (read default_config (chars source))
 

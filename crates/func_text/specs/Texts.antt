@@ -36,7 +36,8 @@ abbrev pub concat_of : Value → List ℕ → Result Value EvalErr
 concat_of list separator =
     list_in list >>= λ vs. all_shown vs >>= λ texts. made (kind.Text (joined separator texts))
 
--- Split: the pieces between the occurrences of a separator, found from left to right. An empty separator is Range.
+-- Split: the pieces between the occurrences of a separator, found from left to right. An empty
+-- separator is Range.
 
 -- whether a text begins with the separator
 abbrev pub starts_with : List ℕ → List ℕ → Bool
@@ -65,7 +66,8 @@ split_of value separator =
     text_in value >>= λ text.
     cond (length separator == 0) (Err Range) (made (texts_of (pieces separator text)))
 
--- Substring: so many bytes of a text from a place on; Range where they are no part of it, or cut a character.
+-- Substring: so many bytes of a text from a place on; Range where they are no part of it, or cut a
+-- character.
 
 -- the place is no place inside a character
 abbrev pub is_cut : List ℕ → ℕ → Bool
@@ -104,8 +106,8 @@ len_layer other = not_wanted other
 abbrev pub len_of : Value → Result Value EvalErr
 len_of value = len_layer (out-Value value)
 
--- Int: an integer itself, a truth as 1 or 0, a text of an optional sign and decimal digits as that number; nil and
--- another text are nil.
+-- Int: an integer itself, a truth as 1 or 0, a text of an optional sign and decimal digits as that
+-- number; nil and another text are nil.
 
 -- one decimal digit or more
 abbrev pub are_digits : List ℕ → Bool

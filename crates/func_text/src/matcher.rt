@@ -68,7 +68,8 @@ impl<'p> PatternMatcher<'p> {
         self.matcher.replace_all(alloc, text, &template)
     }
 
-    /// The named groups of the first match with the texts that they matched, in the pattern's order.
+    /// The named groups of the first match with the texts that they matched, in the pattern's
+    /// order.
     pub fn named_groups(&mut self, alloc: Global, text: &str) -> Result<Pairs, AllocError>
         ensures groups { IfOk result (λ groups. pairs groups ≡ named_groups self.old text.now) }
         ensures same { self.new ≡ self.old }

@@ -24,7 +24,8 @@ impl<'p, const MOST: usize> Matchers<'p, MOST> {
         }
     }
 
-    /// What searches for the pattern, made if there is none. Where there are `MOST`, the oldest is given up for it.
+    /// What searches for the pattern, made if there is none. Where there are `MOST`, the oldest is
+    /// given up for it.
     pub fn matcher(&mut self, pattern: &'p Pattern) -> Result<&mut PatternMatcher<'p>, AllocError>
         ensures { IfOk result (λ matcher. matcher.now ≡ pattern.now) }
     {
@@ -54,7 +55,8 @@ impl<'p, const MOST: usize> Matchers<'p, MOST> {
         }
     }
 
-    /// Out of line, since the room of a new matcher is kilobytes, which a search for one that is there must not clear.
+    /// Out of line, since the room of a new matcher is kilobytes, which a search for one that is
+    /// there must not clear.
     #[cold]
     #[inline(never)]
     fn make(&mut self, pattern: &'p Pattern) -> Result<usize, AllocError>

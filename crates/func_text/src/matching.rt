@@ -1,5 +1,5 @@
-//! The functions on patterns. Each stands twice: with a pattern, for which it makes a matcher for the one call, and
-//! with a matcher that the caller keeps.
+//! The functions on patterns. Each stands twice: with a pattern, for which it makes a matcher for
+//! the one call, and with a matcher that the caller keeps.
 
 ghost use Rattle.std.specs.Prelude.{◌≡◌};
 ghost use Rattle.pdata_value.specs.Answers.{Answers};
@@ -37,8 +37,8 @@ pub fn is_match_with(
     }
 }
 
-/// A map of the named groups of the first match in a text, in the pattern's order. A group that took no part is the
-/// empty text; without a match the map is empty.
+/// A map of the named groups of the first match in a text, in the pattern's order. A group that
+/// took no part is the empty text; without a match the map is empty.
 pub fn extract_patterns(alloc: Global, value: &Value, pattern: &Pattern) -> Result<Value, EvalStop>
     ensures { Answers result (extract_patterns_of value.now pattern.now) }
 {
@@ -60,7 +60,8 @@ pub fn extract_patterns_with(
     made(Value::Map(groups))
 }
 
-/// The new value, where the target is a text: all matches in it are replaced by what the template writes there.
+/// The new value, where the target is a text: all matches in it are replaced by what the template
+/// writes there.
 pub fn replace_pattern(
     alloc: Global,
     target: &Value,

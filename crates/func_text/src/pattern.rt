@@ -77,7 +77,8 @@ pub trait PatternMaker {
         ensures kept { OnOk result (refusals self.new ≡ refusals self.old) };
 }
 
-/// The maker that compiles a text by `regex`, seen as its count of refusals, which stays at its last number.
+/// The maker that compiles a text by `regex`, seen as its count of refusals, which stays at its
+/// last number.
 #[derive(Drop)]
 pub struct RegexMaker {
     refusals: u64,

@@ -1,5 +1,5 @@
-//! Rows of the table of functions. Values are noted as `nil`, `true`, `7`, `'text`, `~1.5` (a double), `#0aff` (bytes),
-//! `['a nil]` and `{k='a}`; errors as `!KindOf`.
+//! Rows of the table of functions. Values are noted as `nil`, `true`, `7`, `'text`, `~1.5` (a
+//! double), `#0aff` (bytes), `['a nil]` and `{k='a}`; errors as `!KindOf`.
 
 mod matches;
 mod texts;

@@ -80,7 +80,8 @@ moment_of p =
     match_some p.minute (Err BadText) (λ mi. match_some p.second (Err BadText) (λ s.
     civil_moment y m d h mi s))))))
 
--- the moment of a text under a format, once both are complete; what the format doesn't read is BadText
+-- the moment of a text under a format, once both are complete; what the format doesn't read is
+-- BadText
 unfoldable pub moment_in : List ℕ → List ℕ → Result ℤ EvalErr
 moment_in text format =
     match_result (parse_text (full_format format) (full_text format text))

@@ -1,5 +1,5 @@
--- The functions on times, each as its row of the table of functions in docs/FUNCTIONS.md. A time is an
--- integer of nanoseconds since 1970-01-01T00:00:00 in UTC.
+-- The functions on times, each as its row of the table of functions in docs/FUNCTIONS.md. A time is
+-- an integer of nanoseconds since 1970-01-01T00:00:00 in UTC.
 use Rattle.std.specs.Prelude.{ℕ, ℤ, pos, ◌+ℤ◌, ◌*ℤ◌, cond, List, Result, Ok, Err}
 use Rattle.std.specs.Int.{int_div_euclid}
 use Rattle.pdata_value.specs.declared.error.EvalErr.{EvalErr}

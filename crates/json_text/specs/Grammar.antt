@@ -1,5 +1,5 @@
--- The grammar of JSON (RFC 8259), over bytes that are UTF-8. An escape of a surrogate stands only as a high one directly
--- followed by a low one.
+-- The grammar of JSON (RFC 8259), over bytes that are UTF-8. An escape of a surrogate stands only
+-- as a high one directly followed by a low one.
 use Rattle.std.specs.Prelude.{◌==◌, ◌&&◌, not, ℕ, zero, suc, codes, List, [], ◌∷◌}
 use Rattle.std.specs.Char.{digit_value}
 use Rattle.std.specs.Int.{is_in_range}
@@ -39,7 +39,8 @@ behind_d = alt (seq (hex_rule 0 7) two_digits) (seq (hex_rule 8 11) (seq two_dig
 
 -- behind `\u`
 abbrev pub unit_rule : Rule
-unit_rule = alt (seq (byte (λ b. is_in_range 0 15 (digit_value b) && not (digit_value b == 13))) (seq (hex_rule 0 15) two_digits))
+unit_rule = alt (seq (byte (λ b. is_in_range 0 15 (digit_value b) && not (digit_value b == 13)))
+    (seq (hex_rule 0 15) two_digits))
     (seq (hex_rule 13 13) behind_d)
 
 -- what may follow a backslash
@@ -56,7 +57,9 @@ text_rule = seq (one 34) (seq (many piece_rule) (one 34))
 
 -- a value that is no container
 abbrev pub scalar_rule : Rule
-scalar_rule = alt text_rule (alt numeral (alt (word_rule (codes "true")) (alt (word_rule (codes "false")) (word_rule (codes "null")))))
+scalar_rule = alt text_rule
+    (alt numeral
+    (alt (word_rule (codes "true")) (alt (word_rule (codes "false")) (word_rule (codes "null")))))
 
 -- what stands between brackets, with the closing one: elements with commas between them
 abbrev pub comma_rule : Rule → Rule
@@ -64,7 +67,8 @@ comma_rule element = seq (one 44) (seq ws (seq element ws))
 
 -- items with commas between them, up to a closing byte
 abbrev pub sequence_rule : Rule → ℕ → Rule
-sequence_rule element close = seq ws (alt (one close) (seq (seq (seq element ws) (many (comma_rule element))) (one close)))
+sequence_rule element close =
+    seq ws (alt (one close) (seq (seq (seq element ws) (many (comma_rule element))) (one close)))
 
 -- a list of values of this rule
 abbrev pub list_rule : Rule → Rule
@@ -81,7 +85,8 @@ object_rule value = seq (one 123) (sequence_rule (member_rule value) 125)
 -- a value in which lists and objects nest no deeper than the number
 abbrev pub value_rule : ℕ → Rule
 value_rule zero = scalar_rule
-value_rule (suc depth) = alt scalar_rule (alt (list_rule (value_rule depth)) (object_rule (value_rule depth)))
+value_rule (suc depth) =
+    alt scalar_rule (alt (list_rule (value_rule depth)) (object_rule (value_rule depth)))
 
 -- a text of JSON in which lists and objects nest no deeper than the number
 abbrev pub json : ℕ → Rule

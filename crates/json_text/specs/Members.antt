@@ -1,4 +1,5 @@
--- Which members of an object count, where null is as good as absent and of one key the last member counts.
+-- Which members of an object count, where null is as good as absent and of one key the last member
+-- counts.
 use Rattle.std.specs.Prelude.{ℕ, Bool, false, ◌&&◌, ◌||◌, not, cond, List, [], ◌∷◌, Option, Some}
 use Rattle.std.specs.Str.{bytes_eq}
 use Rattle.pdata_value.specs.Pairs.{has_key}
@@ -17,4 +18,5 @@ has_standing key (m ∷ ms) = bytes_eq m.0 key && stands m ms || has_standing ke
 abbrev pub last_standing : (List ℕ → Bool) → Option Member → List Member → Option Member
 last_standing is_known found [] = found
 last_standing is_known found (m ∷ ms) =
-    cond (is_known m.0 && stands m ms) (last_standing is_known (Some m) ms) (last_standing is_known found ms)
+    cond (is_known m.0 && stands m ms) (last_standing is_known (Some m) ms)
+    (last_standing is_known found ms)

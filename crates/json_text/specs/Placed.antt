@@ -23,7 +23,8 @@ behind_key at key = at + length (quoted_text key) + 1
 -- members with a comma between them
 abbrev pub placed_members : ℕ → List (List ℕ × Placing Json) → List (List ℕ × Json)
 placed_members at [] = []
-placed_members at (m ∷ ms) = (m.0, m.1.1 (behind_key at m.0)) ∷ placed_members (behind_key at m.0 + length m.1.0 + 1) ms
+placed_members at (m ∷ ms) =
+    (m.0, m.1.1 (behind_key at m.0)) ∷ placed_members (behind_key at m.0 + length m.1.0 + 1) ms
 
 -- a kind with the places of its values, from a place on
 abbrev pub placed_kind : JsonKind-F (Placing JsonKind) (Placing Json) → ℕ → JsonKind
@@ -36,7 +37,11 @@ placed_kind (JsonKind-F.Object members) at = kinds.Object (placed_members (at + 
 
 -- the places in a kind, from those in its values
 abbrev pub placing_step : JsonKind-F (Placing JsonKind) (Placing Json) → Placing JsonKind
-placing_step layer = (kind_step (map-JsonKind (Placing JsonKind) (Placing Json) (List ℕ) (List ℕ) (λ p. p.0) (λ p. p.0) layer), placed_kind layer)
+placing_step layer = (
+  kind_step (map-JsonKind (Placing JsonKind) (Placing Json) (List ℕ) (List ℕ)
+      (λ p. p.0) (λ p. p.0) layer),
+  placed_kind layer,
+)
 
 -- the places in a value, from those in its kind
 abbrev pub placing_step_json : Json-F (Placing JsonKind) (Placing Json) → Placing Json

@@ -24,7 +24,8 @@ Reads X = Result (X × Rest) JsonFault
 
 -- one reading after another
 infixl 10 ◌>>=◌
-abbrev pub ◌>>=◌ : {A B : Type 0} → Result A JsonFault → (A → Result B JsonFault) → Result B JsonFault
+abbrev pub ◌>>=◌ : {A B : Type 0} → Result A JsonFault → (A → Result B JsonFault)
+    → Result B JsonFault
 (Ok x) >>= f = f x
 (Err e) >>= f = Err e
 
@@ -79,7 +80,8 @@ number r = number_end r >>= λ e. Ok (take (length r.left - length e.left) r.lef
 
 -- the value of a hexadecimal digit within these bounds
 abbrev pub hex : ℕ → ℕ → Rest → Reads ℕ
-hex low high r = one_of (λ b. is_in_range low high (digit_value b)) r >>= λ p. Ok (digit_value p.0, p.1)
+hex low high r =
+    one_of (λ b. is_in_range low high (digit_value b)) r >>= λ p. Ok (digit_value p.0, p.1)
 
 -- two more digits of a number
 unfoldable pub two_more : ℕ → Rest → Reads ℕ
@@ -93,19 +95,23 @@ low_half high r =
 
 -- four digits of which the first is a D: no surrogate, or a pair
 unfoldable pub from_d : Rest → Reads ℕ
-from_d r = hex 0 11 r >>= λ b. two_more (208 + b.0) b.1 >>= λ p. cond (nat_lt b.0 8) (Ok p) (low_half p.0 p.1)
+from_d r = hex 0 11 r >>= λ b. two_more (208 + b.0) b.1
+    >>= λ p. cond (nat_lt b.0 8) (Ok p) (low_half p.0 p.1)
 
 -- the character behind `\u`
 unfoldable pub unit : Rest → Reads ℕ
-unit r = hex 0 15 r >>= λ a. cond (a.0 == 13) (from_d a.1) (hex 0 15 a.1 >>= λ b. two_more (a.0 * 16 + b.0) b.1)
+unit r = hex 0 15 r
+    >>= λ a. cond (a.0 == 13) (from_d a.1) (hex 0 15 a.1 >>= λ b. two_more (a.0 * 16 + b.0) b.1)
 
 -- the letters that stand behind a backslash, but for `u`
 abbrev pub is_short : ℕ → Bool
-is_short b = b == 34 || b == 92 || b == 47 || b == 98 || b == 102 || b == 110 || b == 114 || b == 116
+is_short b =
+    b == 34 || b == 92 || b == 47 || b == 98 || b == 102 || b == 110 || b == 114 || b == 116
 
 -- the character of such a letter
 abbrev pub short : ℕ → ℕ
-short b = cond (b == 98) 8 (cond (b == 102) 12 (cond (b == 110) 10 (cond (b == 114) 13 (cond (b == 116) 9 b))))
+short b = cond (b == 98) 8
+    (cond (b == 102) 12 (cond (b == 110) 10 (cond (b == 114) 13 (cond (b == 116) 9 b))))
 
 -- the character behind a backslash
 unfoldable pub escape : Rest → Reads ℕ
@@ -119,12 +125,15 @@ is_plain b = nat_le 32 b && not (b == 34) && not (b == 92)
 
 -- a byte that stands for itself, or an escape in UTF-8
 abbrev pub piece : Rest → Reads (List ℕ)
-piece r = cond (head r == 92) (escape (past 1 r) >>= λ p. Ok (encode_utf8 p.0, p.1)) (one_of is_plain r >>= λ p. Ok (p.0 ∷ [], p.1))
+piece r = cond (head r == 92) (escape (past 1 r) >>= λ p. Ok (encode_utf8 p.0, p.1))
+    (one_of is_plain r >>= λ p. Ok (p.0 ∷ [], p.1))
 
--- a text behind its opening quote. The number bounds the pieces: more than the bytes are always enough.
+-- a text behind its opening quote. The number bounds the pieces: more than the bytes are always
+-- enough.
 unfoldable pub text : ℕ → Rest → Reads (List ℕ)
 text zero r = Err (BadJson r.at)
-text (suc n) r = cond (head r == 34) (Ok ([], past 1 r)) (piece r >>= λ p. with_front p.0 (text n p.1))
+text (suc n) r =
+    cond (head r == 34) (Ok ([], past 1 r)) (piece r >>= λ p. with_front p.0 (text n p.1))
 
 -- a text with its quotes
 abbrev pub quoted : Rest → Reads (List ℕ)
@@ -134,7 +143,8 @@ quoted r = this 34 r >>= λ q. text (length q.left + 1) q
 
 -- behind an element: a comma, or the byte that closes; whether it is the comma
 abbrev pub comma_or : ℕ → Rest → Reads Bool
-comma_or close r = cond (head r == 44) (Ok (true, blanks (past 1 r))) (cond (head r == close) (Ok (false, past 1 r)) (Err (BadJson r.at)))
+comma_or close r = cond (head r == 44) (Ok (true, blanks (past 1 r)))
+    (cond (head r == close) (Ok (false, past 1 r)) (Err (BadJson r.at)))
 
 -- more elements behind a comma, and none behind the byte that closes
 abbrev pub more : {X : Type 0} → X → (Rest → Reads (List X)) → Bool × Rest → Reads (List X)
@@ -144,15 +154,18 @@ more x others (false, r) = Ok (x ∷ [], r)
 -- elements with commas between them. The number bounds them: more than the bytes are always enough.
 unfoldable pub elements : {X : Type 0} → (Rest → Reads X) → ℕ → ℕ → Rest → Reads (List X)
 elements one close zero r = Err (BadJson r.at)
-elements one close (suc n) r = one r >>= λ p. comma_or close (blanks p.1) >>= more p.0 (elements one close n)
+elements one close (suc n) r =
+    one r >>= λ p. comma_or close (blanks p.1) >>= more p.0 (elements one close n)
 
 -- what stands behind the byte that opens
 abbrev pub sequence : {X : Type 0} → (Rest → Reads X) → ℕ → ℕ → Rest → Reads (List X)
-sequence one close n r = cond (head (blanks r) == close) (Ok ([], past 1 (blanks r))) (elements one close n (blanks r))
+sequence one close n r =
+    cond (head (blanks r) == close) (Ok ([], past 1 (blanks r))) (elements one close n (blanks r))
 
 -- a member of an object
 abbrev pub member : (Rest → Reads Json) → Rest → Reads (List ℕ × Json)
-member value r = quoted r >>= λ k. this 58 (blanks k.1) >>= λ c. value (blanks c) >>= λ v. Ok ((k.0, v.0), v.1)
+member value r =
+    quoted r >>= λ k. this 58 (blanks k.1) >>= λ c. value (blanks c) >>= λ v. Ok ((k.0, v.0), v.1)
 
 -- Values.
 
@@ -178,7 +191,8 @@ unfoldable pub value : ℕ → Rest → Reads Json
 value zero r = cond (head r == 91 || head r == 123) (Err (TooDeep r.at)) (scalar r)
 value (suc depth) r =
     cond (head r == 91) (make r kinds.List (sequence (value depth) 93 (length r.left) (past 1 r)))
-    (cond (head r == 123) (make r kinds.Object (sequence (member (value depth)) 125 (length r.left) (past 1 r)))
+    (cond (head r == 123)
+    (make r kinds.Object (sequence (member (value depth)) 125 (length r.left) (past 1 r)))
     (scalar r))
 
 -- The whole text.
@@ -189,8 +203,10 @@ ended json r = cond (length r.left == 0) (Ok json) (Err (BadJson r.at))
 
 -- of bytes that are UTF-8
 unfoldable pub document : ℕ → List ℕ → Result Json JsonFault
-document depth bytes = value depth (blanks (record { at = 0; left = bytes })) >>= λ p. ended p.0 (blanks p.1)
+document depth bytes =
+    value depth (blanks (record { at = 0; left = bytes })) >>= λ p. ended p.0 (blanks p.1)
 
 -- `bytes` as JSON whose lists and objects nest no deeper than `depth`
 abbrev pub json_text : List ℕ → ℕ → Result Json JsonFault
-json_text bytes depth = cond (utf8_valid_len bytes == length bytes) (document depth bytes) (Err (BadUtf8 (utf8_valid_len bytes)))
+json_text bytes depth = cond (utf8_valid_len bytes == length bytes) (document depth bytes)
+    (Err (BadUtf8 (utf8_valid_len bytes)))

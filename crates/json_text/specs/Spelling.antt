@@ -1,5 +1,5 @@
--- The value that a text of JSON spells, by the cases of its grammar (RFC 8259), apart from how a text is read. An escape of a
--- surrogate stands only as a high one directly followed by a low one.
+-- The value that a text of JSON spells, by the cases of its grammar (RFC 8259), apart from how a
+-- text is read. An escape of a surrogate stands only as a high one directly followed by a low one.
 use Rattle.std.specs.Prelude.{◌≡◌, ◌≢◌, ◌≤◌, ◌<◌, ◌⊎◌, ℕ, zero, suc, ◌+◌, ◌*◌, ◌==◌, true, false, codes, List, [], ◌∷◌, ◌++◌, length, Some, IsTrue}
 use Rattle.std.specs.List.{list_all, list_any}
 use Rattle.std.specs.Char.{digit_value, encode_utf8}
@@ -29,28 +29,36 @@ IsHex b = digit_value b < 16
 -- `\u` and four hexadecimal digits spell a unit of UTF-16
 pub data SpellsUnit : List ℕ → ℕ → Type 0 where
   unit : (a b c d : ℕ) → IsHex a → IsHex b → IsHex c → IsHex d
-      → SpellsUnit (92 ∷ 117 ∷ a ∷ b ∷ c ∷ d ∷ []) (digit_value a * 4096 + digit_value b * 256 + digit_value c * 16 + digit_value d)
+      → SpellsUnit (92 ∷ 117 ∷ a ∷ b ∷ c ∷ d ∷ [])
+      (digit_value a * 4096 + digit_value b * 256 + digit_value c * 16 + digit_value d)
 
 -- an escape spells a character: by a letter, by its unit, or by a pair of units
 pub data SpellsEscape : List ℕ → ℕ → Type 0 where
-  short : (letter character : ℕ) → ShortEscape letter character → SpellsEscape (92 ∷ letter ∷ []) character
-  lone : (text : List ℕ) (code character : ℕ) → SpellsUnit text code → lone_unit_char code ≡ Some character → SpellsEscape text character
+  short : (letter character : ℕ) → ShortEscape letter character
+      → SpellsEscape (92 ∷ letter ∷ []) character
+  lone : (text : List ℕ) (code character : ℕ) → SpellsUnit text code
+      → lone_unit_char code ≡ Some character → SpellsEscape text character
   pair : (first second : List ℕ) (high low : ℕ) → SpellsUnit first high → SpellsUnit second low
-      → IsTrue (is_high_surrogate high) → IsTrue (is_low_surrogate low) → SpellsEscape (first ++ second) (surrogate_pair_char high low)
+      → IsTrue (is_high_surrogate high) → IsTrue (is_low_surrogate low)
+      → SpellsEscape (first ++ second) (surrogate_pair_char high low)
 
--- a byte from the space on stands for itself, but for the quote and the backslash; an escape stands for its character in UTF-8
+-- a byte from the space on stands for itself, but for the quote and the backslash; an escape stands
+-- for its character in UTF-8
 pub data SpellsPiece : List ℕ → List ℕ → Type 0 where
   plain : (b : ℕ) → 32 ≤ b → b ≢ 34 → b ≢ 92 → SpellsPiece (b ∷ []) (b ∷ [])
-  escape : (text : List ℕ) (character : ℕ) → SpellsEscape text character → SpellsPiece text (encode_utf8 character)
+  escape : (text : List ℕ) (character : ℕ) → SpellsEscape text character
+      → SpellsPiece text (encode_utf8 character)
 
 -- pieces one after another
 pub data SpellsPieces : List ℕ → List ℕ → Type 0 where
   none : SpellsPieces [] []
-  more : (front back text rest : List ℕ) → SpellsPiece front text → SpellsPieces back rest → SpellsPieces (front ++ back) (text ++ rest)
+  more : (front back text rest : List ℕ) → SpellsPiece front text → SpellsPieces back rest
+      → SpellsPieces (front ++ back) (text ++ rest)
 
 -- a text in quotes
 pub data SpellsText : List ℕ → List ℕ → Type 0 where
-  quoted : (inside text : List ℕ) → SpellsPieces inside text → SpellsText (codes "\"" ++ inside ++ codes "\"") text
+  quoted : (inside text : List ℕ) → SpellsPieces inside text
+      → SpellsText (codes "\"" ++ inside ++ codes "\"") text
 
 -- What stands between brackets.
 
@@ -76,16 +84,19 @@ pub record Padded {X : Type 0} (spell : Spelling X) (at : ℕ) (text : List ℕ)
 abbrev pub SpellsMore : {X : Type 0} → Spelling X → Spelling (List X)
 SpellsMore spell at text [] = text ≡ []
 SpellsMore spell at text (x ∷ xs) =
-    (front : List ℕ) × (back : List ℕ) × (text ≡ codes "," ++ front ++ back) × Padded spell (at + 1) front x × SpellsMore spell (at + 1 + length front) back xs
+    (front : List ℕ) × (back : List ℕ) × (text ≡ codes "," ++ front ++ back)
+    × Padded spell (at + 1) front x × SpellsMore spell (at + 1 + length front) back xs
 
 -- a comma between these, or blanks alone
 abbrev pub SpellsAll : {X : Type 0} → Spelling X → Spelling (List X)
 SpellsAll spell at text [] = IsBlank text
 SpellsAll spell at text (x ∷ xs) =
-    (front : List ℕ) × (back : List ℕ) × (text ≡ front ++ back) × Padded spell at front x × SpellsMore spell (at + length front) back xs
+    (front : List ℕ) × (back : List ℕ) × (text ≡ front ++ back) × Padded spell at front x
+    × SpellsMore spell (at + length front) back xs
 
 -- a key and a value with a colon between them
-pub record SpellsMember (spell : Spelling Json) (at : ℕ) (text : List ℕ) (member : List ℕ × Json) : Type 0 where
+pub record SpellsMember (spell : Spelling Json) (at : ℕ) (text : List ℕ)
+    (member : List ℕ × Json) : Type 0 where
   pub key : List ℕ
   pub before : List ℕ
   pub after : List ℕ
@@ -110,13 +121,15 @@ pub data SpellsScalar : List ℕ → JsonKind → Type 0 where
 pub data SpellsContainer (spell : Spelling Json) : ℕ → List ℕ → JsonKind → Type 0 where
   list : (at : ℕ) (inside : List ℕ) (items : List Json) → SpellsAll spell (at + 1) inside items
       → SpellsContainer spell at (codes "[" ++ inside ++ codes "]") (kinds.List items)
-  object : (at : ℕ) (inside : List ℕ) (members : List (List ℕ × Json)) → SpellsAll (SpellsMember spell) (at + 1) inside members
+  object : (at : ℕ) (inside : List ℕ) (members : List (List ℕ × Json))
+      → SpellsAll (SpellsMember spell) (at + 1) inside members
       → SpellsContainer spell at (codes "{" ++ inside ++ codes "}") (kinds.Object members)
 
 -- a value with its place, in which lists and objects nest no deeper than the number
 abbrev pub SpellsValue : ℕ → Spelling Json
 SpellsValue zero at text json = (json.at ≡ at) × SpellsScalar text json.kind
-SpellsValue (suc depth) at text json = (json.at ≡ at) × (SpellsScalar text json.kind ⊎ SpellsContainer (SpellsValue depth) at text json.kind)
+SpellsValue (suc depth) at text json = (json.at ≡ at)
+    × (SpellsScalar text json.kind ⊎ SpellsContainer (SpellsValue depth) at text json.kind)
 
 -- a whole text
 abbrev pub SpellsJson : ℕ → List ℕ → Json → Type 0

@@ -10,7 +10,8 @@ use Rattle.json_text.specs.declared.json.JsonKind.TheFolds.{fold-JsonKind, fold-
 -- the escape of a byte that can't stand for itself: a letter of its own, or two hexadecimal digits
 abbrev pub escape_of : ℕ → List ℕ
 escape_of b =
-    cond (b == 34) (codes "\\\"") (cond (b == 92) (codes "\\\\") (cond (b == 8) (codes "\\b") (cond (b == 12) (codes "\\f")
+    cond (b == 34) (codes "\\\"")
+    (cond (b == 92) (codes "\\\\") (cond (b == 8) (codes "\\b") (cond (b == 12) (codes "\\f")
     (cond (b == 10) (codes "\\n") (cond (b == 13) (codes "\\r") (cond (b == 9) (codes "\\t")
     (codes "\\u00" ++ digit_char (b / 16) ∷ digit_char (b % 16) ∷ [])))))))
 
@@ -53,7 +54,8 @@ kind_step (JsonKind-F.Truth truth) = truth_text truth
 kind_step (JsonKind-F.Number spelling) = spelling
 kind_step (JsonKind-F.Text text) = quoted_text text
 kind_step (JsonKind-F.List texts) = codes "[" ++ listed_from 0 texts ++ codes "]"
-kind_step (JsonKind-F.Object members) = codes "{" ++ listed_from 0 (map member_text members) ++ codes "}"
+kind_step (JsonKind-F.Object members) =
+    codes "{" ++ listed_from 0 (map member_text members) ++ codes "}"
 
 -- the text of a value is that of its kind
 abbrev pub json_step : Json-F (List ℕ) (List ℕ) → List ℕ
@@ -91,7 +93,8 @@ numbers_of = fold-Json (List (List ℕ)) (List (List ℕ)) numbers_step numbers_
 abbrev pub texts_step : JsonKind-F (List (List ℕ)) (List (List ℕ)) → List (List ℕ)
 texts_step (JsonKind-F.Text text) = text ∷ []
 texts_step (JsonKind-F.List below) = joined below
-texts_step (JsonKind-F.Object below) = joined (map (λ (m : List ℕ × List (List ℕ)). m.0 ∷ m.1) below)
+texts_step (JsonKind-F.Object below) =
+    joined (map (λ (m : List ℕ × List (List ℕ)). m.0 ∷ m.1) below)
 texts_step _ = []
 
 -- a value has the texts of its kind

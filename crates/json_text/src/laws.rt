@@ -17,20 +17,27 @@ ghost use Rattle.json_text.specs.declared.error.JsonFault.TheVariants.{BadJson, 
 /// Reading is the grammar.
 pub fn reading_is_the_grammar()
     // What is read is spelled so, and what is spelled so is read.
-    ensures read_is_spelled { (bytes : List ℕ) (depth : ℕ) (value : Json) → json_text bytes depth ≡ Ok value → spells (json depth) bytes }
-    ensures spelled_is_read { (bytes : List ℕ) (depth : ℕ) → IsUtf8 bytes → spells (json depth) bytes → IsOk (json_text bytes depth) }
+    ensures read_is_spelled { (bytes : List ℕ) (depth : ℕ) (value : Json)
+        → json_text bytes depth ≡ Ok value → spells (json depth) bytes }
+    ensures spelled_is_read { (bytes : List ℕ) (depth : ℕ) → IsUtf8 bytes
+        → spells (json depth) bytes → IsOk (json_text bytes depth) }
 
-    // BadJson stands at the end of the longest viable prefix, however deep that nests, and in each grammar at least as deep.
-    ensures bad_json { (bytes : List ℕ) (depth at : ℕ) → json_text bytes depth ≡ Err (BadJson at) → IsLongest IsJsonPrefix bytes at }
-    ensures bad_json_at_each_depth { (bytes : List ℕ) (depth at deeper : ℕ) → json_text bytes depth ≡ Err (BadJson at) → depth ≤ deeper
+    // BadJson stands at the end of the longest viable prefix, however deep that nests, and in each
+    // grammar at least as deep.
+    ensures bad_json { (bytes : List ℕ) (depth at : ℕ) → json_text bytes depth ≡ Err (BadJson at)
+        → IsLongest IsJsonPrefix bytes at }
+    ensures bad_json_at_each_depth { (bytes : List ℕ) (depth at deeper : ℕ)
+        → json_text bytes depth ≡ Err (BadJson at) → depth ≤ deeper
         → IsLongest (viable (json deeper)) bytes at }
 
     // TooDeep stands there in the grammar as deep as allowed, and a deeper one goes on.
     ensures too_deep { (bytes : List ℕ) (depth at : ℕ) → json_text bytes depth ≡ Err (TooDeep at)
         → IsLongest (viable (json depth)) bytes at }
-    ensures deeper_goes_on { (bytes : List ℕ) (depth at deeper : ℕ) → json_text bytes depth ≡ Err (TooDeep at) → depth < deeper
+    ensures deeper_goes_on { (bytes : List ℕ) (depth at deeper : ℕ)
+        → json_text bytes depth ≡ Err (TooDeep at) → depth < deeper
         → (count : ℕ) × (at < count) × IsLongest (viable (json deeper)) bytes count }
-    ensures deeper_spells_more { (depth : ℕ) (text : List ℕ) → spells (json depth) text → spells (json (suc depth)) text }
+    ensures deeper_spells_more { (depth : ℕ) (text : List ℕ) → spells (json depth) text
+        → spells (json (suc depth)) text }
 {}
 
 /// The value that is read is the one that the text spells, by the cases of the grammar.
@@ -43,6 +50,7 @@ pub fn spelled_value_is_read()
 
 /// What is written is read again as the value written, with the places of the new text.
 pub fn written_is_read()
-    ensures { (value : Json) (depth : ℕ) → containers value ≤ depth → All IsNumeral (numbers_of value) → All IsUtf8 (texts_of value)
+    ensures { (value : Json) (depth : ℕ) → containers value ≤ depth
+        → All IsNumeral (numbers_of value) → All IsUtf8 (texts_of value)
         → json_text (text_of value) depth ≡ Ok (placed 0 value) }
 {}

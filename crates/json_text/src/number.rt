@@ -13,7 +13,8 @@ use crate::scan::is_digit;
 /// Passes a number, which is its spelling.
 #[inline(always)]
 pub fn number<'a>(cursor: &mut Cursor<'a>) -> Result<&'a str, JsonFault>
-    ensures gives { Gives (λ spelled. (spelled.now, cursor.new)) fault_of result (spec.number cursor.old) }
+    ensures gives { Gives (λ spelled. (spelled.now, cursor.new)) fault_of result
+        (spec.number cursor.old) }
     ensures numeral { IfOk result (λ spelled. IsNumeral spelled.now) }
     ensures shorter { OnOk result (length cursor.new.left < length cursor.old.left) }
 {

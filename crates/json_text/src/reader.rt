@@ -16,7 +16,8 @@ use item_list::ItemList;
 use pdata_value::{Spelling, Text};
 use std::alloc::Global;
 
-// A list that grows from nothing begins with room for four, which is too much memory for many small ones.
+// A list that grows from nothing begins with room for four, which is too much memory for many small
+// ones.
 const FIRST_ROOM: usize = 1;
 
 /// The value that the bytes spell. Lists and objects may nest `depth` deep.
@@ -83,7 +84,8 @@ pub fn value_of(alloc: Global, cursor: &mut Cursor<'_>, depth: u32) -> Result<Js
 #[cycle(read)]
 fn items_of(alloc: Global, cursor: &mut Cursor<'_>, depth: u32) -> Result<Items, JsonFault>
     ensures gives { (n : ℕ) → length cursor.old.left < n
-        → Gives (λ found. (found, cursor.new)) fault_of result (sequence (value depth) 93 n cursor.old) }
+        → Gives (λ found. (found, cursor.new)) fault_of result
+        (sequence (value depth) 93 n cursor.old) }
     ensures shorter { OnOk result (length cursor.new.left < length cursor.old.left) }
 {
     if is_closed(cursor, b']') {
@@ -102,7 +104,8 @@ fn items_of(alloc: Global, cursor: &mut Cursor<'_>, depth: u32) -> Result<Items,
 #[cycle(read)]
 fn members_of(alloc: Global, cursor: &mut Cursor<'_>, depth: u32) -> Result<Members, JsonFault>
     ensures gives { (n : ℕ) → length cursor.old.left < n
-        → Gives (λ found. (found, cursor.new)) fault_of result (sequence (member (value depth)) 125 n cursor.old) }
+        → Gives (λ found. (found, cursor.new)) fault_of result
+        (sequence (member (value depth)) 125 n cursor.old) }
     ensures shorter { OnOk result (length cursor.new.left < length cursor.old.left) }
 {
     if is_closed(cursor, b'}') {
@@ -120,7 +123,8 @@ fn members_of(alloc: Global, cursor: &mut Cursor<'_>, depth: u32) -> Result<Memb
 // A key, a colon and a value.
 #[cycle(read)]
 fn member_of(alloc: Global, cursor: &mut Cursor<'_>, depth: u32) -> Result<(Text, Json), JsonFault>
-    ensures gives { Gives (λ pair. (pair, cursor.new)) fault_of result (member (value depth) cursor.old) }
+    ensures gives { Gives (λ pair. (pair, cursor.new)) fault_of result
+        (member (value depth) cursor.old) }
     ensures shorter { OnOk result (length cursor.new.left < length cursor.old.left) }
 {
     let key = text(alloc, cursor)?;
@@ -135,8 +139,10 @@ fn member_of(alloc: Global, cursor: &mut Cursor<'_>, depth: u32) -> Result<(Text
 pub fn is_closed(cursor: &mut Cursor<'_>, close: u8) -> bool
     requires some { 0 < close }
     requires ascii { close < 128 }
-    ensures closed { result ≡ true → (head (blanks cursor.old) ≡ close) × (cursor.new ≡ past 1 (blanks cursor.old)) }
-    ensures goes_on { result ≡ false → ((head (blanks cursor.old) == close) ≡ false) × (cursor.new ≡ blanks cursor.old) }
+    ensures closed { result ≡ true
+        → (head (blanks cursor.old) ≡ close) × (cursor.new ≡ past 1 (blanks cursor.old)) }
+    ensures goes_on { result ≡ false
+        → ((head (blanks cursor.old) == close) ≡ false) × (cursor.new ≡ blanks cursor.old) }
     ensures no_longer { length cursor.new.left ≤ length cursor.old.left }
     ensures shorter { result ≡ true → length cursor.new.left < length cursor.old.left }
 {
@@ -152,7 +158,8 @@ pub fn is_closed(cursor: &mut Cursor<'_>, close: u8) -> bool
 pub fn goes_on(cursor: &mut Cursor<'_>, close: u8) -> Result<bool, JsonFault>
     requires some { 0 < close }
     requires ascii { close < 128 }
-    ensures gives { Gives (λ goes. (goes, cursor.new)) fault_of result (spec.comma_or close (blanks cursor.old)) }
+    ensures gives { Gives (λ goes. (goes, cursor.new)) fault_of result
+        (spec.comma_or close (blanks cursor.old)) }
     ensures shorter { OnOk result (length cursor.new.left < length cursor.old.left) }
 {
     cursor.skip_blanks();
@@ -213,7 +220,8 @@ fn scalar(alloc: Global, cursor: &mut Cursor<'_>) -> Result<Json, JsonFault>
 fn literal(cursor: &mut Cursor<'_>, word: &[u8]) -> Result<(), JsonFault>
     requires { IsTrue (list_all (λ b. nat_lt 0 b && nat_lt b 128) word.now) }
     ensures gives { Gives (λ _. cursor.new) fault_of result (spec.these word.now cursor.old) }
-    ensures shorter { 0 < length word.now → OnOk result (length cursor.new.left < length cursor.old.left) }
+    ensures shorter { 0 < length word.now
+        → OnOk result (length cursor.new.left < length cursor.old.left) }
 {
     for byte in word {
         cursor.expect(*byte)?;

@@ -29,7 +29,8 @@ pub fn text(alloc: Global, cursor: &mut Cursor<'_>) -> Result<Text, JsonFault>
 
 // Appends what stands up to the closing quote, which is passed.
 fn unescape(cursor: &mut Cursor<'_>, spelled: &mut String) -> Result<(), JsonFault>
-    ensures gives { (n : ℕ) → length cursor.old.left < n → Gives (λ _. (string_bytes spelled.new, cursor.new)) fault_of result
+    ensures gives { (n : ℕ) → length cursor.old.left < n
+        → Gives (λ _. (string_bytes spelled.new, cursor.new)) fault_of result
         (with_front (string_bytes spelled.old) (spec.text n cursor.old)) }
     ensures no_longer { OnOk result (length cursor.new.left ≤ length cursor.old.left) }
 {

@@ -74,8 +74,8 @@ pub fn push_comma_before(out: &mut Vec<u8>, index: usize) -> Result<(), AllocErr
     Ok(())
 }
 
-/// Appends a text in quotes, with the bytes that can't stand for themselves as escapes. An Err leaves what stood there,
-/// and some of the text behind it.
+/// Appends a text in quotes, with the bytes that can't stand for themselves as escapes. An Err
+/// leaves what stood there, and some of the text behind it.
 pub fn push_text(out: &mut Vec<u8>, text: &str) -> Result<(), AllocError>
     ensures { OnOk result (out.new.items ≡ out.old.items ++ quoted_text text.now) }
 {

@@ -1,4 +1,5 @@
--- What an exporter gets of the lines of an input: what the pipelines above it leave of each payload.
+-- What an exporter gets of the lines of an input: what the pipelines above it leave of each
+-- payload.
 use Rattle.std.specs.List.{concat}
 use Rattle.std.specs.Prelude.{ℕ, Bool, List, [], ◌∷◌, ◌++◌, Option, Some, None, Ok, Err, if◌then◌else◌}
 use Rattle.conf_draft.specs.References.{is_among}

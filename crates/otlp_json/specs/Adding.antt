@@ -24,7 +24,8 @@ some_behind some [] = some
 some_behind some (m ∷ ms) = true
 
 -- the members were added, behind others or not, and whether members stand now
-pub record Adds (members : List Member) (some : Bool) (old : List ℕ) (now : Bool) (new : List ℕ) : Type 0 where
+pub record Adds (members : List Member) (some : Bool) (old : List ℕ) (now : Bool)
+    (new : List ℕ) : Type 0 where
   pub text : new ≡ old ++ members_behind some members
   pub any : now ≡ some_behind some members
 

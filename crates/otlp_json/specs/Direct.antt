@@ -1,4 +1,5 @@
--- Reading straight from the text of a line: what is read is what the value of JSON that stands there is read as.
+-- Reading straight from the text of a line: what is read is what the value of JSON that stands
+-- there is read as.
 use Rattle.std.specs.Prelude.{◌≡◌, ◌<◌, ℕ, suc, ◌==◌, ◌||◌, Bool, true, false, cond, get_or, option_map, List, [], ◌∷◌, Option, Some, None, IfSome, Ok}
 use Rattle.std.specs.Str.{bytes_eq}
 use Rattle.json_text.specs.Place.{Rest, head, past, blanks}
@@ -32,7 +33,8 @@ abbrev pub plainly : {X : Type 0} → (Json → Read X) → Reader X
 plainly read json n = read json >>= λ x. Ok (x, n)
 
 -- the value that stands next, in which containers nest so deep, isn't null and is read as this
-pub record Stands {X : Type 0} (one : Reader X) (depth : ℕ) (old : Direct) (x : X) (new : Direct) : Type 0 where
+pub record Stands {X : Type 0} (one : Reader X) (depth : ℕ) (old : Direct) (x : X)
+    (new : Direct) : Type 0 where
   pub json : Json
   pub spelled : value depth old.cursor ≡ Ok (json, new.cursor)
   pub not_null : is_null json ≡ false
@@ -47,16 +49,22 @@ pub record Passes (depth : ℕ) (old new : Direct) : Type 0 where
 -- A container.
 
 -- it opens with this byte, and something stands in it, or it is closed already
-pub record Opens (opening close depth : ℕ) (old : Direct) (goes : Bool) (new : Direct) : Type 0 where
+pub record Opens (opening close depth : ℕ) (old : Direct) (goes : Bool)
+    (new : Direct) : Type 0 where
   pub first : head old.cursor ≡ opening
   pub deep : 0 < depth
-  pub stays : goes ≡ true → ((head (blanks (past 1 old.cursor)) == close) ≡ false) × (new.cursor ≡ blanks (past 1 old.cursor))
-  pub closed : goes ≡ false → (head (blanks (past 1 old.cursor)) ≡ close) × (new.cursor ≡ past 1 (blanks (past 1 old.cursor)))
+  pub stays : goes ≡ true
+      → ((head (blanks (past 1 old.cursor)) == close) ≡ false)
+      × (new.cursor ≡ blanks (past 1 old.cursor))
+  pub closed : goes ≡ false
+      → (head (blanks (past 1 old.cursor)) ≡ close)
+      × (new.cursor ≡ past 1 (blanks (past 1 old.cursor)))
   pub counts : new.counts ≡ old.counts
 
 -- a key, its colon and the blanks behind them
 abbrev pub key_of : Rest → Reads (List ℕ)
-key_of r = json_reading.◌>>=◌ (quoted r) (λ k. json_reading.◌>>=◌ (this 58 (blanks k.1)) (λ c. Ok (k.0, blanks c)))
+key_of r = json_reading.◌>>=◌ (quoted r)
+    (λ k. json_reading.◌>>=◌ (this 58 (blanks k.1)) (λ c. Ok (k.0, blanks c)))
 
 -- Members, each known key at most once: a key has a slot, which is taken where it was seen.
 
@@ -76,10 +84,12 @@ is_taken taken slot = get_or taken slot false
 -- the slot of a member whose key is known is taken, and wasn't before
 abbrev pub Takes : List Bool → Option ℕ → List Bool → Type 0
 Takes old None new = new ≡ old
-Takes old (Some slot) new = (is_taken old slot ≡ false) × ((s : ℕ) → is_taken new s ≡ (is_taken old s || s == slot))
+Takes old (Some slot) new =
+    (is_taken old slot ≡ false) × ((s : ℕ) → is_taken new s ≡ (is_taken old s || s == slot))
 
 -- the value that stands next is read as the member of a key, which fills this slot of the object
-pub record Fills {X : Type 0} (table : List (Row X)) (slot_of : List ℕ → Option ℕ) (key : List ℕ) (depth : ℕ) (old : Direct × X) (slot : Option ℕ) (new : Direct × X) : Type 0 where
+pub record Fills {X : Type 0} (table : List (Row X)) (slot_of : List ℕ → Option ℕ) (key : List ℕ)
+    (depth : ℕ) (old : Direct × X) (slot : Option ℕ) (new : Direct × X) : Type 0 where
   pub json : Json
   pub spelled : value depth old.0.cursor ≡ Ok (json, new.0.cursor)
   pub meant : by_key table key json old.1 old.0.counts ≡ Ok (new.1, new.0.counts)

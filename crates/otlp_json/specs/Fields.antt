@@ -1,4 +1,5 @@
--- What the fields of OTLP are read as (the JSON encoding of protobuf): texts, truths, numbers, ids, bytes and doubles.
+-- What the fields of OTLP are read as (the JSON encoding of protobuf): texts, truths, numbers, ids,
+-- bytes and doubles.
 use Rattle.std.specs.Prelude.{ℕ, ℤ, ◌+◌, ◌*◌, ◌-◌, ◌^◌, ◌==◌, Bool, cond, nat_lt, replicate, pos, negsuc, option_map, List, [], ◌∷◌, Option, Some, None, Ok}
 use Rattle.std.specs.Result.{result_ok}
 use Rattle.hex.specs.Hex.{decode_sized}
@@ -98,7 +99,8 @@ id_in size json = text_in json >>= λ text. or_wrong BadId json.at (id_bytes siz
 
 -- bytes in standard base64, with padding (RFC 4648, section 4)
 unfoldable pub bytes_in : Json → Read (List ℕ)
-bytes_in json = text_in json >>= λ text. or_wrong BadBase64 json.at (result_ok (base64.decode_of standard text))
+bytes_in json =
+    text_in json >>= λ text. or_wrong BadBase64 json.at (result_ok (base64.decode_of standard text))
 
 -- a double that a text gives
 abbrev pub double : List ℕ → Option (List ℕ)

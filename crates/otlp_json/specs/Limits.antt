@@ -30,11 +30,13 @@ none_counted = record { records = 0; holders = 0; values = 0 }
 
 -- one more log record at a place
 abbrev pub one_record : ℕ → Counts → Read Counts
-one_record at n = cond (nat_lt n.records most_records) (Ok (record n { records = n.records + 1 })) (wrong TooMany at)
+one_record at n = cond (nat_lt n.records most_records) (Ok (record n { records = n.records + 1 }))
+    (wrong TooMany at)
 
 -- one more resource or scope element at a place
 abbrev pub one_holder : ℕ → Counts → Read Counts
-one_holder at n = cond (nat_lt n.holders most_holders) (Ok (record n { holders = n.holders + 1 })) (wrong TooMany at)
+one_holder at n = cond (nat_lt n.holders most_holders) (Ok (record n { holders = n.holders + 1 }))
+    (wrong TooMany at)
 
 -- a level, where so many may stand from here on
 abbrev pub level : ℕ → ℕ → Counts → Read Counts
@@ -44,4 +46,5 @@ level (suc levels) at n = Ok n
 -- one more value at a place, where so many levels of values may stand from here on
 abbrev pub one_value : ℕ → ℕ → Counts → Read Counts
 one_value levels at n =
-    cond (nat_lt n.values most_values) (Ok (record n { values = n.values + 1 })) (wrong TooMany at) >>= level levels at
+    cond (nat_lt n.values most_values) (Ok (record n { values = n.values + 1 })) (wrong TooMany at)
+    >>= level levels at

@@ -1,5 +1,5 @@
--- The one written form of a payload (OTLP logs in the JSON encoding of protobuf): members in the order of the tables, what
--- is absent left out, no blanks. It is the text of a value of JSON.
+-- The one written form of a payload (OTLP logs in the JSON encoding of protobuf): members in the
+-- order of the tables, what is absent left out, no blanks. It is the text of a value of JSON.
 use Rattle.std.specs.Prelude.{ℕ, ℤ, pos, Bool, true, false, ◌==◌, ◌||◌, cond, codes, List, [], ◌∷◌, ◌++◌, map}
 use Rattle.std.specs.List.{list_all}
 use Rattle.std.specs.Str.{bytes_eq}
@@ -87,7 +87,8 @@ id_member key id = unless (list_all (λ b. b == 0) id) key (text_json (encode_lo
 -- one of the three words that spell a double and are no numeral
 abbrev pub is_word : List ℕ → Bool
 is_word spelling =
-    bytes_eq spelling (codes "NaN") || bytes_eq spelling (codes "Infinity") || bytes_eq spelling (codes "-Infinity")
+    bytes_eq spelling (codes "NaN") || bytes_eq spelling (codes "Infinity")
+    || bytes_eq spelling (codes "-Infinity")
 
 -- a double is its numeral, or its word in quotes
 abbrev pub double_json : List ℕ → Json
@@ -112,7 +113,8 @@ value_step (Value-F.Text text) = one_json (codes "stringValue") (text_json text)
 value_step (Value-F.Truth truth) = one_json (codes "boolValue") (truth_json truth)
 value_step (Value-F.Int int) = one_json (codes "intValue") (text_json (signed_decimal int))
 value_step (Value-F.Double spelling) = one_json (codes "doubleValue") (double_json spelling)
-value_step (Value-F.Bytes bytes) = one_json (codes "bytesValue") (text_json (base64.encode_of standard bytes))
+value_step (Value-F.Bytes bytes) =
+    one_json (codes "bytesValue") (text_json (base64.encode_of standard bytes))
 value_step (Value-F.List items) = one_json (codes "arrayValue") (values_json items)
 value_step (Value-F.Map items) = one_json (codes "kvlistValue") (values_json items)
 
@@ -191,7 +193,8 @@ scope_logs_json element = object_json (scope_logs_members element)
 -- a resource
 abbrev pub resource_members : ResourceNode → List Member
 resource_members resource =
-    attributes_member resource.attributes ++ u32_member (codes "droppedAttributesCount") resource.dropped
+    attributes_member resource.attributes
+    ++ u32_member (codes "droppedAttributesCount") resource.dropped
 
 -- a resource element
 abbrev pub resource_logs_members : ResourceTree → List Member
@@ -206,7 +209,8 @@ resource_logs_json element = object_json (resource_logs_members element)
 
 -- a payload
 unfoldable pub batch_json : Batch → Json
-batch_json batch = one_json (codes "resourceLogs") (list_json (map resource_logs_json batch.resources))
+batch_json batch =
+    one_json (codes "resourceLogs") (list_json (map resource_logs_json batch.resources))
 
 -- the line
 abbrev pub line : Batch → List ℕ

@@ -23,12 +23,15 @@ nested key read put = (key, λ json x n. read json n >>= λ p. Ok (put x p.0, p.
 -- the object once a member with this key is read
 abbrev pub by_key : {X : Type 0} → List (Row X) → List ℕ → Json → X → Counts → Read (X × Counts)
 by_key [] key json x n = Ok (x, n)
-by_key (row ∷ rows) key json x n = cond (bytes_eq key row.0) (row.1 json x n) (by_key rows key json x n)
+by_key (row ∷ rows) key json x n =
+    cond (bytes_eq key row.0) (row.1 json x n) (by_key rows key json x n)
 
 -- the object once a member is read, by the row of its key, where it counts among those behind it
-abbrev pub by_row : {X : Type 0} → List (Row X) → Member → List Member → X → Counts → Read (X × Counts)
+abbrev pub by_row : {X : Type 0} → List (Row X) → Member → List Member → X → Counts
+    → Read (X × Counts)
 by_row [] m behind x n = Ok (x, n)
-by_row (row ∷ rows) m behind x n = cond (bytes_eq m.0 row.0 && stands m behind) (row.1 m.1 x n) (by_row rows m behind x n)
+by_row (row ∷ rows) m behind x n =
+    cond (bytes_eq m.0 row.0 && stands m behind) (row.1 m.1 x n) (by_row rows m behind x n)
 
 -- the object once these members are read, in their order
 abbrev pub fields : {X : Type 0} → List (Row X) → List Member → X → Counts → Read (X × Counts)

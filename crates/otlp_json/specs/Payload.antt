@@ -1,5 +1,5 @@
--- The payload of a line (OTLP logs in the JSON encoding of protobuf): a tree, or the first fault with its place. First
--- comes a fault of the text, then that of the field with the least place.
+-- The payload of a line (OTLP logs in the JSON encoding of protobuf): a tree, or the first fault
+-- with its place. First comes a fault of the text, then that of the field with the least place.
 use Rattle.std.specs.Prelude.{ℕ, List, Result, Ok, Err}
 use Rattle.pdata_tree.specs.declared.batch.Batch.{Batch}
 use Rattle.json_text.specs.Reading.{json_text}

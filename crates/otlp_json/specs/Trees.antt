@@ -1,4 +1,5 @@
--- Log records, scopes, resources and payloads of OTLP (`LogRecord`, `ScopeLogs`, `ResourceLogs`, `LogsData`).
+-- Log records, scopes, resources and payloads of OTLP (`LogRecord`, `ScopeLogs`, `ResourceLogs`,
+-- `LogsData`).
 use Rattle.std.specs.Prelude.{ℕ, codes, replicate, pos, List, [], ◌∷◌}
 use Rattle.pdata_value.specs.declared.value.Value.TheVariants as values
 use Rattle.pdata_tree.specs.declared.batch.Batch.{Batch}
@@ -36,12 +37,15 @@ empty_record = record {
 unfoldable pub record_table : List (Row LogRecord)
 record_table =
     plain (codes "timeUnixNano") u64_in (λ log time. record log { time = time })
-    ∷ plain (codes "observedTimeUnixNano") u64_in (λ log observed. record log { observed = observed })
+    ∷ plain (codes "observedTimeUnixNano") u64_in
+    (λ log observed. record log { observed = observed })
     ∷ plain (codes "severityNumber") i32_in (λ log severity. record log { severity = severity })
     ∷ plain (codes "severityText") text_in (λ log text. record log { severity_text = text })
     ∷ nested (codes "body") (value_in most_levels) (λ log body. record log { body = body })
-    ∷ nested (codes "attributes") (pairs_in most_levels) (λ log attributes. record log { attributes = attributes })
-    ∷ plain (codes "droppedAttributesCount") u32_in (λ log dropped. record log { dropped = dropped })
+    ∷ nested (codes "attributes") (pairs_in most_levels)
+    (λ log attributes. record log { attributes = attributes })
+    ∷ plain (codes "droppedAttributesCount") u32_in
+    (λ log dropped. record log { dropped = dropped })
     ∷ plain (codes "flags") u32_in (λ log flags. record log { flags = flags })
     ∷ plain (codes "traceId") (id_in 16) (λ log id. record log { trace_id = id })
     ∷ plain (codes "spanId") (id_in 8) (λ log id. record log { span_id = id })
@@ -55,15 +59,23 @@ record_in json n = one_record json.at n >>= object record_table empty_record jso
 
 -- a scope without members
 abbrev pub empty_scope : ScopeNode
-empty_scope = record { name = []; version = []; attributes = record { items = [] }; dropped = 0; schema_url = [] }
+empty_scope = record {
+  name = [];
+  version = [];
+  attributes = record { items = [] };
+  dropped = 0;
+  schema_url = [];
+}
 
 -- the members of a scope
 unfoldable pub scope_table : List (Row ScopeNode)
 scope_table =
     plain (codes "name") text_in (λ scope name. record scope { name = name })
     ∷ plain (codes "version") text_in (λ scope version. record scope { version = version })
-    ∷ nested (codes "attributes") (pairs_in most_levels) (λ scope attributes. record scope { attributes = attributes })
-    ∷ plain (codes "droppedAttributesCount") u32_in (λ scope dropped. record scope { dropped = dropped })
+    ∷ nested (codes "attributes") (pairs_in most_levels)
+    (λ scope attributes. record scope { attributes = attributes })
+    ∷ plain (codes "droppedAttributesCount") u32_in
+    (λ scope dropped. record scope { dropped = dropped })
     ∷ []
 
 -- a scope
@@ -76,7 +88,8 @@ records_in = list record_in
 
 -- the schema's URL is the element's
 abbrev pub with_scope : ScopeTree → ScopeNode → ScopeTree
-with_scope element scope = record element { node = record scope { schema_url = element.node.schema_url } }
+with_scope element scope =
+    record element { node = record scope { schema_url = element.node.schema_url } }
 
 -- a scope with this URL of its schema
 abbrev pub with_scope_schema : ScopeTree → List ℕ → ScopeTree
@@ -107,8 +120,10 @@ empty_resource = record { attributes = record { items = [] }; dropped = 0; schem
 -- the members of a resource
 unfoldable pub resource_table : List (Row ResourceNode)
 resource_table =
-    nested (codes "attributes") (pairs_in most_levels) (λ resource attributes. record resource { attributes = attributes })
-    ∷ plain (codes "droppedAttributesCount") u32_in (λ resource dropped. record resource { dropped = dropped })
+    nested (codes "attributes") (pairs_in most_levels)
+    (λ resource attributes. record resource { attributes = attributes })
+    ∷ plain (codes "droppedAttributesCount") u32_in
+    (λ resource dropped. record resource { dropped = dropped })
     ∷ []
 
 -- a resource
@@ -121,11 +136,13 @@ scopes_in = list scope_logs_in
 
 -- the schema's URL is the element's
 abbrev pub with_resource : ResourceTree → ResourceNode → ResourceTree
-with_resource element resource = record element { node = record resource { schema_url = element.node.schema_url } }
+with_resource element resource =
+    record element { node = record resource { schema_url = element.node.schema_url } }
 
 -- a resource with this URL of its schema
 abbrev pub with_resource_schema : ResourceTree → List ℕ → ResourceTree
-with_resource_schema element url = record element { node = record element.node { schema_url = url } }
+with_resource_schema element url =
+    record element { node = record element.node { schema_url = url } }
 
 -- the members of a resource element
 unfoldable pub resource_logs_table : List (Row ResourceTree)
@@ -141,7 +158,8 @@ empty_resource_logs = record { node = empty_resource; scopes = [] }
 
 -- a resource element, which is counted before its members are read
 unfoldable pub resource_logs_in : Reader ResourceTree
-resource_logs_in json n = one_holder json.at n >>= object resource_logs_table empty_resource_logs json
+resource_logs_in json n =
+    one_holder json.at n >>= object resource_logs_table empty_resource_logs json
 
 -- Payloads.
 
@@ -151,7 +169,8 @@ resources_in = list resource_logs_in
 
 -- the members of a payload
 unfoldable pub batch_table : List (Row Batch)
-batch_table = nested (codes "resourceLogs") resources_in (λ batch resources. record batch { resources = resources }) ∷ []
+batch_table = nested (codes "resourceLogs") resources_in
+    (λ batch resources. record batch { resources = resources }) ∷ []
 
 -- a payload without members
 abbrev pub empty_batch : Batch
@@ -160,4 +179,5 @@ empty_batch = record { resources = [] }
 -- a payload, which has to be an object
 unfoldable pub batch_in : Reader Batch
 batch_in json n =
-    or_wrong NotObject json.at (as_members json) >>= λ members. fields batch_table members empty_batch n
+    or_wrong NotObject json.at (as_members json)
+    >>= λ members. fields batch_table members empty_batch n

@@ -13,7 +13,8 @@ use Rattle.otlp_json.specs.Limits.{one_value}
 use Rattle.otlp_json.specs.Fields.{text_in, truth_in, i64_in, double_in, bytes_in, items_in, members_in}
 use Rattle.otlp_json.specs.Objects.{Row, plain, nested, by_key, fields, object}
 
--- Below, a number of levels says how many values may still stand in one another, and `value` is how a value is read.
+-- Below, a number of levels says how many values may still stand in one another, and `value` is how
+-- a value is read.
 
 -- a pair
 abbrev pub pair_table : Reader Value → List (Row (List ℕ × Value))
@@ -24,7 +25,8 @@ pair_table value =
 
 -- where no member `value` counts, the pair itself is one more value
 abbrev pub absent_value : ℕ → ℕ → List Member → Counts → Read Counts
-absent_value levels at members n = cond (has_standing (codes "value") members) (Ok n) (one_value levels at n)
+absent_value levels at members n =
+    cond (has_standing (codes "value") members) (Ok n) (one_value levels at n)
 
 -- a pair, which is counted before its members are read
 abbrev pub pair_by : ℕ → Reader Value → Reader (List ℕ × Value)
@@ -35,11 +37,13 @@ pair_by levels value json n =
 -- a list of pairs
 abbrev pub pairs_by : ℕ → Reader Value → Reader Pairs
 pairs_by levels value json n =
-    items_in json >>= λ items. each (pair_by levels value) [] items n >>= λ p. Ok (record { items = p.0 }, p.1)
+    items_in json >>= λ items. each (pair_by levels value) [] items n
+    >>= λ p. Ok (record { items = p.0 }, p.1)
 
 -- a list of values
 abbrev pub values_by : Reader Value → Reader Values
-values_by value json n = items_in json >>= λ items. each value [] items n >>= λ p. Ok (record { items = p.0 }, p.1)
+values_by value json n =
+    items_in json >>= λ items. each value [] items n >>= λ p. Ok (record { items = p.0 }, p.1)
 
 -- `arrayValue`
 abbrev pub array_table : Reader Value → List (Row Values)
@@ -56,16 +60,20 @@ value_table levels value =
     ∷ plain (codes "boolValue") truth_in (λ _ truth. values.Truth truth)
     ∷ plain (codes "intValue") i64_in (λ _ int. values.Int int)
     ∷ plain (codes "doubleValue") double_in (λ _ spelling. values.Double spelling)
-    ∷ nested (codes "arrayValue") (object (array_table value) (record { items = [] })) (λ _ list. values.List list)
-    ∷ nested (codes "kvlistValue") (object (map_table levels value) (record { items = [] })) (λ _ pairs. values.Map pairs)
+    ∷ nested (codes "arrayValue") (object (array_table value) (record { items = [] }))
+    (λ _ list. values.List list)
+    ∷ nested (codes "kvlistValue") (object (map_table levels value) (record { items = [] }))
+    (λ _ pairs. values.Map pairs)
     ∷ plain (codes "bytesValue") bytes_in (λ _ bytes. values.Bytes bytes)
     ∷ []
 
 -- whether a key is one of the seven
 unfoldable pub is_value_key : List ℕ → Bool
 is_value_key key =
-    bytes_eq key (codes "stringValue") || bytes_eq key (codes "boolValue") || bytes_eq key (codes "intValue")
-    || bytes_eq key (codes "doubleValue") || bytes_eq key (codes "arrayValue") || bytes_eq key (codes "kvlistValue")
+    bytes_eq key (codes "stringValue") || bytes_eq key (codes "boolValue")
+    || bytes_eq key (codes "intValue")
+    || bytes_eq key (codes "doubleValue") || bytes_eq key (codes "arrayValue")
+    || bytes_eq key (codes "kvlistValue")
     || bytes_eq key (codes "bytesValue")
 
 -- of the members that count the last alone is read
@@ -76,12 +84,14 @@ only table (Some m) n = by_key table m.0 m.1 values.Empty n
 -- a value that is counted already
 abbrev pub value_by : ℕ → Reader Value → Reader Value
 value_by levels value json n =
-    members_in json >>= λ members. only (value_table levels value) (last_standing is_value_key None members) n
+    members_in json >>= λ members. only (value_table levels value)
+    (last_standing is_value_key None members) n
 
 -- a value, where so many levels of values may stand from here on
 unfoldable pub value_in : ℕ → Reader Value
 value_in zero json n = one_value zero json.at n >>= λ m. Ok (values.Empty, m)
-value_in (suc levels) json n = one_value (suc levels) json.at n >>= value_by levels (value_in levels) json
+value_in (suc levels) json n =
+    one_value (suc levels) json.at n >>= value_by levels (value_in levels) json
 
 -- the value that a member gives
 unfoldable pub only_in : ℕ → Member → Counts → Read (Value × Counts)

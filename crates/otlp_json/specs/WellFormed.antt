@@ -1,4 +1,5 @@
--- Trees that a payload can be: what their fields may hold, and how many records, elements and values they may have.
+-- Trees that a payload can be: what their fields may hold, and how many records, elements and
+-- values they may have.
 use Rattle.std.specs.Prelude.{◌≡◌, ◌≤◌, ◌<◌, ◌^◌, ℕ, zero, suc, ◌+◌, cond, List, [], ◌∷◌, length, map}
 use Rattle.std.specs.Int.{w32, w64}
 use Rattle.std.specs.Int.RustNames.{FitsSigned}
@@ -36,7 +37,8 @@ holds IsSound (Value-F.Bytes bytes) = IsBytes bytes
 holds IsSound (Value-F.List list) = All IsSound (items list)
 holds IsSound (Value-F.Map map) = All (λ (p : List ℕ × Value). IsUtf8 p.0 × IsSound p.1) (pairs map)
 
--- a value with at most so many levels, whose texts are UTF-8, whose numbers fit and whose doubles are spelled
+-- a value with at most so many levels, whose texts are UTF-8, whose numbers fit and whose doubles
+-- are spelled
 unfoldable pub IsValue : ℕ → Value → Type 0
 IsValue zero value = ⊥
 IsValue (suc levels) value = holds (IsValue levels) (out-Value value)
@@ -49,7 +51,11 @@ IsAttributes map = All (λ (p : List ℕ × Value). IsUtf8 p.0 × IsValue most_l
 
 -- one count and another
 abbrev pub plus : Counts → Counts → Counts
-plus n m = record { records = n.records + m.records; holders = n.holders + m.holders; values = n.values + m.values }
+plus n m = record {
+  records = n.records + m.records;
+  holders = n.holders + m.holders;
+  values = n.values + m.values;
+}
 
 -- no more than a payload may have
 abbrev pub Within : Counts → Type 0
@@ -91,7 +97,11 @@ only_values n = record { records = 0; holders = 0; values = n }
 -- a log record, with its values
 abbrev pub size_of_record : LogRecord → Counts
 size_of_record log =
-    record { records = 1; holders = 0; values = values_in_body log.body + values_in_pairs (pairs log.attributes) }
+    record {
+      records = 1;
+      holders = 0;
+      values = values_in_body log.body + values_in_pairs (pairs log.attributes);
+    }
 
 -- all of these, where one is of a size
 abbrev pub sizes : {X : Type 0} → (X → Counts) → List X → Counts
@@ -101,13 +111,21 @@ sizes size (x ∷ xs) = plus (size x) (sizes size xs)
 -- a scope element, with all below it
 unfoldable pub size_of_scope_logs : ScopeTree → Counts
 size_of_scope_logs element =
-    plus (record { records = 0; holders = 1; values = values_in_pairs (pairs element.node.attributes) })
+    plus (record {
+      records = 0;
+      holders = 1;
+      values = values_in_pairs (pairs element.node.attributes);
+    })
     (sizes size_of_record element.logs)
 
 -- a resource element, with all below it
 unfoldable pub size_of_resource_logs : ResourceTree → Counts
 size_of_resource_logs element =
-    plus (record { records = 0; holders = 1; values = values_in_pairs (pairs element.node.attributes) })
+    plus (record {
+      records = 0;
+      holders = 1;
+      values = values_in_pairs (pairs element.node.attributes);
+    })
     (sizes size_of_scope_logs element.scopes)
 
 -- a payload

@@ -29,8 +29,8 @@ pub enum PayloadKind {
     TooMany,
 }
 
-/// The first fault of a line, with its place, counted in bytes from 0. The place of a fault in a field is the first byte
-/// of the value of JSON that stands there.
+/// The first fault of a line, with its place, counted in bytes from 0. The place of a fault in a
+/// field is the first byte of the value of JSON that stands there.
 #[derive(Clone, Copy, Debug, PartialEq, Eq)]
 pub struct PayloadFault {
     pub kind: PayloadKind,

@@ -22,11 +22,13 @@ pub fn lines_read_back()
 pub fn cut_lines_are_refused()
     // Between two characters: at the length of the front.
     ensures between { (front rest : List ℕ) (value : Json) (members : List Member)
-        → json_text (front ++ (rest ++ codes "}")) most_containers ≡ Ok value → as_members value ≡ Some members
+        → json_text (front ++ (rest ++ codes "}")) most_containers ≡ Ok value
+        → as_members value ≡ Some members
         → IsUtf8 front → payload front ≡ wrong BadJson (length front) }
 
     // Within a character: at its first byte, where the longest front that is UTF-8 ends.
-    ensures within { (front : List ℕ) (at : ℕ) → IsValidUpTo front at → payload front ≡ wrong BadUtf8 at }
+    ensures within { (front : List ℕ) (at : ℕ) → IsValidUpTo front at
+        → payload front ≡ wrong BadUtf8 at }
 {}
 
 /// What is read has no more log records, elements and values than a payload may have.

@@ -50,7 +50,8 @@ fn read_resource_member(
 
 #[tactic(auto, unfolding(crate::specs::Trees::resource_in))]
 fn resource_of(alloc: Global, counts: &mut Counts, json: &Json) -> Result<ResourceNode, PayloadStop>
-    ensures { Gives (λ resource. (resource, counts.new)) fault_of result (resource_in json.now counts.old) }
+    ensures { Gives (λ resource. (resource, counts.new)) fault_of result
+        (resource_in json.now counts.old) }
 {
     let mut rest = members_of(json)?;
     let mut resource = empty_resource(alloc);
@@ -63,7 +64,8 @@ fn resource_of(alloc: Global, counts: &mut Counts, json: &Json) -> Result<Resour
 
 #[tactic(auto, unfolding(crate::specs::Trees::scopes_in))]
 fn scopes_of(alloc: Global, counts: &mut Counts, json: &Json) -> Result<Scopes, PayloadStop>
-    ensures { Gives (λ scopes. (scopes, counts.new)) fault_of result (scopes_in json.now counts.old) }
+    ensures { Gives (λ scopes. (scopes, counts.new)) fault_of result
+        (scopes_in json.now counts.old) }
 {
     let items = items_of(json)?;
     let mut scopes = ItemList::with_capacity(alloc, items.len())?;

@@ -28,7 +28,8 @@ pub fn write_line(alloc: Global, batch: &Batch) -> Result<Vec<u8>, AllocError>
     Ok(out)
 }
 
-/// Appends the line of a payload, without a newline. An Err leaves what stood there, and some of the line behind it.
+/// Appends the line of a payload, without a newline. An Err leaves what stood there, and some of
+/// the line behind it.
 pub fn push_line(out: &mut Vec<u8>, batch: &Batch) -> Result<(), AllocError>
     ensures { OnOk result (out.new.items ≡ out.old.items ++ line batch.now) }
 {
@@ -103,7 +104,8 @@ impl ToJson for LogRecord {
 }
 
 fn push_record_members(out: &mut Vec<u8>, log: &LogRecord) -> Result<bool, AllocError>
-    ensures { IfOk result (λ now. Adds (spec.record_members log.now) false out.old.items now out.new.items) }
+    ensures { IfOk result
+        (λ now. Adds (spec.record_members log.now) false out.old.items now out.new.items) }
 {
     let time = push_u64_member(out, false, "timeUnixNano", log.time)?;
     let observed = push_u64_member(out, time, "observedTimeUnixNano", log.observed)?;
@@ -129,7 +131,8 @@ fn is_empty_value(value: &Value) -> bool
 }
 
 fn push_body(out: &mut Vec<u8>, some: bool, body: &Value) -> Result<bool, AllocError>
-    ensures { IfOk result (λ now. Adds (spec.body_member body.now) some out.old.items now out.new.items) }
+    ensures { IfOk result
+        (λ now. Adds (spec.body_member body.now) some out.old.items now out.new.items) }
 {
     if is_empty_value(body) {
         return Ok(some);
@@ -140,7 +143,8 @@ fn push_body(out: &mut Vec<u8>, some: bool, body: &Value) -> Result<bool, AllocE
 }
 
 fn push_attributes(out: &mut Vec<u8>, some: bool, attributes: &Pairs) -> Result<bool, AllocError>
-    ensures { IfOk result (λ now. Adds (spec.attributes_member attributes.now) some out.old.items now out.new.items) }
+    ensures { IfOk result
+        (λ now. Adds (spec.attributes_member attributes.now) some out.old.items now out.new.items) }
 {
     if attributes.len() == 0 {
         return Ok(some);

@@ -1,4 +1,5 @@
--- One code for each kind of token, each keyword and each sign, over which the grammar of statements has its rules.
+-- One code for each kind of token, each keyword and each sign, over which the grammar of statements
+-- has its rules.
 use Rattle.std.specs.Prelude.{ℕ, cond, ◌==◌, List, [], ◌∷◌, codes}
 use Rattle.std.specs.Str.{bytes_eq}
 use Rattle.ottl_lex.specs.Tokens.{slice_of}
@@ -86,7 +87,8 @@ word_code word =
 
 -- which sign of two bytes, by the first
 abbrev pub pair_code : ℕ → ℕ
-pair_code first = cond (first == 61) equal (cond (first == 33) unequal (cond (first == 60) at_most at_least))
+pair_code first =
+    cond (first == 61) equal (cond (first == 33) unequal (cond (first == 60) at_most at_least))
 
 -- which sign: one byte is its own code
 abbrev pub sign_code : List ℕ → ℕ

@@ -85,7 +85,8 @@ pub record HasOddLiteral (text : List ℕ) : Type 0 where
 -- the fault at `at` is right for the text whose first byte is at `place`, where a token is wanted
 abbrev pub FaultStands : SyntaxKind → ℕ → ℕ → List ℕ → Type 0
 FaultStands BadChar at place text = (at ≡ place) × HasNoToken text × (HasQuote text → ⊥)
-FaultStands OpenText at place text = (at ≡ place) × HasNoToken text × HasQuote text × (IsClosed text → ⊥)
+FaultStands OpenText at place text =
+    (at ≡ place) × HasNoToken text × HasQuote text × (IsClosed text → ⊥)
 FaultStands BadEscape at place text = HasNoToken text × IsClosed text × HasBadEscape at place text
 FaultStands NotUtf8 at place text = (at ≡ place) × HasNoToken text × HasNotUtf8 text
 FaultStands Fraction at place text = (at ≡ place) × HasFraction text
@@ -100,6 +101,8 @@ pub record StopsAt (at : ℕ) (text : List ℕ) (fault : SyntaxFault) : Type 0 w
   pub before : AreTokens at text tokens place rest
   pub stands : FaultStands fault.kind fault.at place rest
 
--- behind tokens and blanks, a fault stands where the text has no token, or digits that are no number
+-- behind tokens and blanks, a fault stands where the text has no token, or digits that are no
+-- number
 abbrev pub FaultsStand : Type 0
-FaultsStand = (text : List ℕ) (fault : SyntaxFault) → tokens_of text ≡ Err fault → StopsAt 0 text fault
+FaultsStand =
+    (text : List ℕ) (fault : SyntaxFault) → tokens_of text ≡ Err fault → StopsAt 0 text fault

@@ -23,7 +23,8 @@ digits_value digits = value_in 10 digits
 -- the number that the first bytes write, if they are so many digits in the base
 abbrev pub numeral : ℕ → ℕ → List ℕ → Option ℕ
 numeral base count text =
-    cond (nat_le count (length text) && are_digits base (take count text)) (Some (value_in base (take count text))) None
+    cond (nat_le count (length text) && are_digits base (take count text))
+    (Some (value_in base (take count text))) None
 
 -- a hexadecimal digit's value, and 0 for another byte
 abbrev pub hex_value : ℕ → ℕ

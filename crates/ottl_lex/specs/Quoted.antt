@@ -13,12 +13,14 @@ fault kind at = record { kind = kind; at = at }
 
 -- what a step gives goes on into the next; the first fault stays
 infixl 10 ◌>>=◌
-abbrev pub ◌>>=◌ : {A B : Type 0} → Result A SyntaxFault → (A → Result B SyntaxFault) → Result B SyntaxFault
+abbrev pub ◌>>=◌ : {A B : Type 0} → Result A SyntaxFault → (A → Result B SyntaxFault)
+    → Result B SyntaxFault
 (Ok x) >>= f = f x
 (Err e) >>= f = Err e
 
 -- these items before what is given
-abbrev pub with_front : {X : Type 0} → List X → Result (List X) SyntaxFault → Result (List X) SyntaxFault
+abbrev pub with_front : {X : Type 0} → List X → Result (List X) SyntaxFault
+    → Result (List X) SyntaxFault
 with_front front (Ok items) = Ok (front ++ items)
 with_front front (Err e) = Err e
 
@@ -27,8 +29,8 @@ abbrev pub one_more : Option ℕ → Option ℕ
 one_more None = None
 one_more (Some n) = Some (suc n)
 
--- How many bytes stand before the closing quote. A byte behind a backslash, where `taken`, doesn't close; no newline
--- may stand in a text.
+-- How many bytes stand before the closing quote. A byte behind a backslash, where `taken`, doesn't
+-- close; no newline may stand in a text.
 abbrev pub closing : Bool → List ℕ → Option ℕ
 closing taken [] = None
 closing taken (b ∷ rest) =
@@ -39,7 +41,8 @@ closing taken (b ∷ rest) =
 -- the letters of escapes, each with the byte that a backslash and it stand for
 abbrev pub letters : List (ℕ × ℕ)
 letters =
-    (97, 7) ∷ (98, 8) ∷ (102, 12) ∷ (110, 10) ∷ (114, 13) ∷ (116, 9) ∷ (118, 11) ∷ (92, 92) ∷ (34, 34) ∷ []
+    (97, 7) ∷ (98, 8) ∷ (102, 12) ∷ (110, 10) ∷ (114, 13) ∷ (116, 9) ∷ (118, 11) ∷ (92, 92)
+    ∷ (34, 34) ∷ []
 
 -- the byte beside a letter
 abbrev pub byte_beside : List (ℕ × ℕ) → ℕ → Option ℕ
@@ -68,8 +71,8 @@ abbrev pub one_character : ℕ → Option ℕ → Option Escape
 one_character size None = None
 one_character size (Some c) = cond (is_character c) (Some (encode_utf8 c, size)) None
 
--- The escape whose backslash stands before the text: `x` and two hexadecimal digits, `u` and four, `U` and eight, three
--- octal digits, or a letter.
+-- The escape whose backslash stands before the text: `x` and two hexadecimal digits, `u` and four,
+-- `U` and eight, three octal digits, or a letter.
 abbrev pub escape_at : List ℕ → Option Escape
 escape_at [] = None
 escape_at (c ∷ rest) =
@@ -84,16 +87,19 @@ abbrev pub is_plain : ℕ → Bool
 is_plain b = not (b == 92)
 
 -- an escape's bytes before what is behind it, or BadEscape at its backslash
-abbrev pub escaped : ℕ → Option Escape → (ℕ → Result (List ℕ) SyntaxFault) → Result (List ℕ) SyntaxFault
+abbrev pub escaped : ℕ → Option Escape → (ℕ → Result (List ℕ) SyntaxFault)
+    → Result (List ℕ) SyntaxFault
 escaped at None behind = Err (fault BadEscape at)
 escaped at (Some e) behind = with_front e.0 (behind e.1)
 
--- The bytes that a text stands for whose first byte is at the place. So many first bytes are passed: those of an escape.
+-- The bytes that a text stands for whose first byte is at the place. So many first bytes are
+-- passed: those of an escape.
 abbrev pub unescaped : ℕ → ℕ → List ℕ → Result (List ℕ) SyntaxFault
 unescaped passed at [] = Ok []
 unescaped (suc n) at (b ∷ rest) = unescaped n (at + 1) rest
 unescaped zero at (b ∷ rest) =
-    cond (b == 92) (escaped at (escape_at rest) (λ n. unescaped n (at + 1) rest)) (with_front (b ∷ []) (unescaped 0 (at + 1) rest))
+    cond (b == 92) (escaped at (escape_at rest) (λ n. unescaped n (at + 1) rest))
+    (with_front (b ∷ []) (unescaped 0 (at + 1) rest))
 
 -- bytes that are UTF-8, or NotUtf8 at the quote
 abbrev pub as_utf8 : ℕ → List ℕ → Result (List ℕ) SyntaxFault

@@ -21,7 +21,8 @@ IsName first more (b ∷ rest) = (first b ≡ true) × Each more rest
 
 -- so many digits in the base
 abbrev pub AreDigits : ℕ → ℕ → List ℕ → Type 0
-AreDigits base count digits = (length digits ≡ count) × Each (λ b. nat_lt (digit_value b) base) digits
+AreDigits base count digits =
+    (length digits ≡ count) × Each (λ b. nat_lt (digit_value b) base) digits
 
 -- a piece of a quoted text: a byte that stands for itself, or an escape
 pub data Piece : Type 0 where
@@ -113,11 +114,13 @@ pub record IsLongest (text : List ℕ) (kind : TokenKind) (size : ℕ) : Type 0 
   pub whole : text ≡ slice ++ behind
   pub sized : length slice ≡ size
   pub is : IsToken kind slice
-  pub longest : (other : TokenKind) (front rest : List ℕ) → text ≡ front ++ rest → IsToken other front → length front ≤ size
+  pub longest : (other : TokenKind) (front rest : List ℕ) → text ≡ front ++ rest
+      → IsToken other front → length front ≤ size
 
 -- the text begins with no token
 abbrev pub HasNoToken : List ℕ → Type 0
-HasNoToken text = (kind : TokenKind) (front rest : List ℕ) → text ≡ front ++ rest → IsToken kind front → ⊥
+HasNoToken text =
+    (kind : TokenKind) (front rest : List ℕ) → text ≡ front ++ rest → IsToken kind front → ⊥
 
 -- blanks lead from a place in the text to a further place
 pub record AreBlanks (at : ℕ) (text : List ℕ) (place : ℕ) (rest : List ℕ) : Type 0 where
@@ -126,18 +129,21 @@ pub record AreBlanks (at : ℕ) (text : List ℕ) (place : ℕ) (rest : List ℕ
   pub whole : text ≡ blanks ++ rest
   pub placed : place ≡ at + length blanks
 
--- Tokens and blanks lead from a place in the text to a further place: each token is the longest at its place, and blanks
--- alone stand between them.
+-- Tokens and blanks lead from a place in the text to a further place: each token is the longest at
+-- its place, and blanks alone stand between them.
 abbrev pub AreTokens : ℕ → List ℕ → List Token → ℕ → List ℕ → Type 0
 AreTokens at text [] place rest = AreBlanks at text place rest
 AreTokens at text (t ∷ ts) place rest =
-    (here : List ℕ) × AreBlanks at text t.begin here × (t.begin < t.end) × IsLongest here t.kind (t.end - t.begin)
+    (here : List ℕ) × AreBlanks at text t.begin here × (t.begin < t.end)
+    × IsLongest here t.kind (t.end - t.begin)
     × AreTokens t.end (drop (t.end - t.begin) here) ts place rest
 
 -- the tokens of a text are all of it but blanks
 abbrev pub TokensAreLongest : Type 0
-TokensAreLongest = (text : List ℕ) (tokens : List Token) → tokens_of text ≡ Ok tokens → AreTokens 0 text tokens (length text) []
+TokensAreLongest = (text : List ℕ) (tokens : List Token) → tokens_of text ≡ Ok tokens
+    → AreTokens 0 text tokens (length text) []
 
 -- what is read from a text of the table is what its pieces stand for
 abbrev pub ContentsAreMeant : Type 0
-ContentsAreMeant = (at : ℕ) (slice : List ℕ) (text : IsText slice) → text_of at slice ≡ Ok (meant text.pieces)
+ContentsAreMeant =
+    (at : ℕ) (slice : List ℕ) (text : IsText slice) → text_of at slice ≡ Ok (meant text.pieces)

@@ -39,7 +39,8 @@ is_name_of (x ∷ xs) name = bytes_eq name x || is_name_of xs name
 -- the keywords
 abbrev pub keywords : List (List ℕ)
 keywords =
-    codes "where" ∷ codes "and" ∷ codes "or" ∷ codes "not" ∷ codes "true" ∷ codes "false" ∷ codes "nil" ∷ []
+    codes "where" ∷ codes "and" ∷ codes "or" ∷ codes "not" ∷ codes "true" ∷ codes "false"
+    ∷ codes "nil" ∷ []
 
 -- whether a lower name is a keyword
 abbrev pub is_keyword : List ℕ → Bool
@@ -57,7 +58,8 @@ lower_at at text =
 
 -- a bytes literal, behind whose `0x` so many hexadecimal digits stand
 abbrev pub hex_at : ℕ → ℕ → Result Token SyntaxFault
-hex_at at count = cond (nat_lt 0 count && count % 2 == 0) (Ok (token Hex at (2 + count))) (Err (fault BadNumber at))
+hex_at at count = cond (nat_lt 0 count && count % 2 == 0) (Ok (token Hex at (2 + count)))
+    (Err (fault BadNumber at))
 
 -- the text begins with a digit
 abbrev pub digit_first : List ℕ → Bool
@@ -86,7 +88,8 @@ number_at at text =
 -- a text behind its quote, with so many bytes before its closing quote
 abbrev pub quoted_at : ℕ → Option ℕ → List ℕ → Result Token SyntaxFault
 quoted_at at None rest = Err (fault OpenText at)
-quoted_at at (Some count) rest = contents at (take count rest) >>= λ _. Ok (token Quoted at (2 + count))
+quoted_at at (Some count) rest =
+    contents at (take count rest) >>= λ _. Ok (token Quoted at (2 + count))
 
 -- a byte is a sign
 abbrev pub is_sign : ℕ → Bool
@@ -117,13 +120,15 @@ token_at at (b ∷ rest) =
     (cond (b == 34) (quoted_at at (closing false rest) rest)
     (sign_at at b rest))))
 
--- The tokens of a text whose first byte is at the place. So many first bytes are passed: those of a token.
+-- The tokens of a text whose first byte is at the place. So many first bytes are passed: those of a
+-- token.
 abbrev pub tokens_from : ℕ → ℕ → List ℕ → Result (List Token) SyntaxFault
 tokens_from passed at [] = Ok []
 tokens_from (suc n) at (b ∷ rest) = tokens_from n (at + 1) rest
 tokens_from zero at (b ∷ rest) =
     cond (is_blank b) (tokens_from 0 (at + 1) rest)
-    (token_at at (b ∷ rest) >>= λ t. with_front (t ∷ []) (tokens_from (t.end - (at + 1)) (at + 1) rest))
+    (token_at at (b ∷ rest)
+    >>= λ t. with_front (t ∷ []) (tokens_from (t.end - (at + 1)) (at + 1) rest))
 
 -- the tokens of a text
 unfoldable pub tokens_of : List ℕ → Result (List Token) SyntaxFault

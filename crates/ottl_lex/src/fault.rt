@@ -20,7 +20,8 @@ pub enum SyntaxKind {
     NotUtf8,
     /// Digits, a point and a digit; at the first digit.
     Fraction,
-    /// Digits before a letter or `_`, or `0x` before an odd number of digits or none; at the first digit.
+    /// Digits before a letter or `_`, or `0x` before an odd number of digits or none; at the first
+    /// digit.
     BadNumber,
     /// A whole number that isn't within 64 bits signed.
     Wide,

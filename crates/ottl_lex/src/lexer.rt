@@ -51,7 +51,8 @@ fn is_blank(byte: u8) -> bool
 fn token_at(alloc: Global, text: &[u8], at: u32) -> Result<Token, SyntaxStop>
     requires { at + length text.now ≤ MAX_TEXT }
     ensures value { Gives (λ token. token) fault_of result (token_at at text.now) }
-    ensures within { IfOk result (λ token. (token.begin ≡ at) × (at < token.end) × (token.end ≤ at + length text.now)) }
+    ensures within { IfOk result
+        (λ token. (token.begin ≡ at) × (at < token.end) × (token.end ≤ at + length text.now)) }
 {
     let Some((first, rest)) = text.split_first() else {
         return Err(stop(SyntaxKind::BadChar, at));
@@ -106,7 +107,8 @@ fn is_keyword(name: &[u8]) -> bool
 fn number_at(text: &[u8], at: u32) -> Result<Token, SyntaxFault>
     requires { at + length text.now ≤ MAX_TEXT }
     ensures value { result ≡ number_at at text.now }
-    ensures within { IfOk result (λ token. (token.begin ≡ at) × (token.end ≤ at + length text.now)) }
+    ensures within { IfOk result
+        (λ token. (token.begin ≡ at) × (token.end ≤ at + length text.now)) }
     ensures some { digit_first text.now ≡ true → IfOk result (λ token. at < token.end) }
 {
     if hex_first(text) {
@@ -161,8 +163,10 @@ fn digits_before(at: u32, count: usize, behind: &[u8]) -> Result<Token, SyntaxFa
 // A text, whose first quote is at the place and before `rest`.
 fn quoted_at(alloc: Global, rest: &[u8], at: u32) -> Result<Token, SyntaxStop>
     requires { at + 1 + length rest.now ≤ MAX_TEXT }
-    ensures value { Gives (λ token. token) fault_of result (quoted_at at (closing false rest.now) rest.now) }
-    ensures within { IfOk result (λ token. (token.begin ≡ at) × (at < token.end) × (token.end ≤ at + 1 + length rest.now)) }
+    ensures value { Gives (λ token. token) fault_of result
+        (quoted_at at (closing false rest.now) rest.now) }
+    ensures within { IfOk result
+        (λ token. (token.begin ≡ at) × (at < token.end) × (token.end ≤ at + 1 + length rest.now)) }
 {
     let Some(count) = closing(rest) else {
         return Err(stop(SyntaxKind::OpenText, at));
@@ -176,7 +180,8 @@ fn quoted_at(alloc: Global, rest: &[u8], at: u32) -> Result<Token, SyntaxStop>
 fn sign_at(first: u8, rest: &[u8], at: u32) -> Result<Token, SyntaxFault>
     requires { at + 1 + length rest.now ≤ MAX_TEXT }
     ensures value { result ≡ sign_at at first rest.now }
-    ensures within { IfOk result (λ token. (token.begin ≡ at) × (at < token.end) × (token.end ≤ at + 1 + length rest.now)) }
+    ensures within { IfOk result
+        (λ token. (token.begin ≡ at) × (at < token.end) × (token.end ≤ at + 1 + length rest.now)) }
 {
     if before_equals(first) && equals_first(rest) {
         Ok(token(TokenKind::Sign, at, 2))

@@ -145,8 +145,8 @@ read_whole read text =
     tokens_of text >>= λ tokens. read (record { text = text; left = tokens })
     >>= λ p. at_end p.1 >>= λ _. Ok p.0
 
--- A fault of reading is the fault of the text, and where it stands at a token, the tokens before it are
--- a viable prefix of the rule.
+-- A fault of reading is the fault of the text, and where it stands at a token, the tokens before it
+-- are a viable prefix of the rule.
 abbrev pub FaultsAreBehindPrefixes : {X : Type 0} → (Rest → Reads X)
     → (List ℕ → Result X SyntaxFault) → Rule → Type 0
 FaultsAreBehindPrefixes read whole rule =

@@ -1,6 +1,6 @@
--- What a text is parsed as, or its first fault: the first of its tokens, then the first among tokens
--- that don't spell a statement or go past a limit, then the first condition or value in the other's
--- place.
+-- What a text is parsed as, or its first fault: the first of its tokens, then the first among
+-- tokens that don't spell a statement or go past a limit, then the first condition or value in the
+-- other's place.
 use Rattle.std.specs.Prelude.{ℕ, cond, ◌==◌, ◌||◌, List, length, Option, Some, None, Result, Ok}
 use Rattle.ottl_lex.specs.Codes.{lower, upper, where_word}
 use Rattle.ottl_lex.specs.Quoted.{◌>>=◌}

@@ -126,8 +126,8 @@ sign_text signs.AtMost = codes " <= "
 sign_text signs.Greater = codes " > "
 sign_text signs.AtLeast = codes " >= "
 
--- How tightly an expression binds, as the grammar's levels do, and its text: 0 for `or`, 1 for `and`,
--- 2 for `not`, 3 for a comparison, 4 for a sum, 5 for a product, 6 for all else.
+-- How tightly an expression binds, as the grammar's levels do, and its text: 0 for `or`, 1 for
+-- `and`, 2 for `not`, 3 for a comparison, 4 for a sum, 5 for a product, 6 for all else.
 abbrev pub Printed : Type 0
 Printed = ℕ × List ℕ
 

@@ -22,8 +22,11 @@ pub fn what_is_parsed_is_spelled()
         → spells (condition_rule 64) (codes_of text tokens) }
 {}
 
-/// Before `Unexpected`, `Wide` and `TooDeep` stand tokens with which some text of the grammar begins.
+/// Before `Unexpected`, `Wide` and `TooDeep` stand tokens with which some text of the grammar
+/// begins.
 pub fn faults_stand_behind_viable_prefixes()
-    ensures statements { FaultsAreBehindPrefixes parsing.statement statement_of (statement_rule 63) }
-    ensures conditions { FaultsAreBehindPrefixes parsing.condition condition_of (condition_rule 64) }
+    ensures statements { FaultsAreBehindPrefixes parsing.statement statement_of
+        (statement_rule 63) }
+    ensures conditions { FaultsAreBehindPrefixes parsing.condition condition_of
+        (condition_rule 64) }
 {}

@@ -121,7 +121,8 @@ fn push_gained(
     book: &NoteBook,
     known: usize,
 ) -> Result<(), AllocError>
-    ensures { OnOk result (notes.new ≡ notes.old ++ numbered component (drop known book.now.notes)) }
+    ensures { OnOk result
+        (notes.new ≡ notes.old ++ numbered component (drop known book.now.notes)) }
 {
     let all = book.notes();
     if known < all.len() {

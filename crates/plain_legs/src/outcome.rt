@@ -75,7 +75,8 @@ fn untouched(alloc: Global, tree: Batch) -> LegOutcome
 }
 
 fn arrived(taken: u128, course: LegCourse) -> Result<LegOutcome, AllocError>
-    ensures { IfOk result (λ left. outcome_of left ≡ ended log_trees taken (Ok (course_of course))) }
+    ensures { IfOk result
+        (λ left. outcome_of left ≡ ended log_trees taken (Ok (course_of course))) }
 {
     let counts = LegCounts {
         taken,

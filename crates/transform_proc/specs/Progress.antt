@@ -117,7 +117,8 @@ abbrev pub run_steps : ErrorMode → ℕ → State Batch → Stepped (State Batc
 run_steps mode = steps_more (transform_step log_trees mode) (λ s. goes_on s s.cursor.groups)
 
 -- a target of the group at hand, which is listed
-pub record AtTarget (settings : TransformSettings) (tree : Batch) (p : Progress) (t : Target) : Type 0 where
+pub record AtTarget (settings : TransformSettings) (tree : Batch) (p : Progress)
+    (t : Target) : Type 0 where
   pub mode : t.turn.mode ≡ settings.error_mode
   pub number : t.turn.number ≡ p.group
   pub group : slice_get settings.log_statements p.group ≡ Some t.turn.group.now

@@ -1,6 +1,6 @@
--- The transform processor step by step. A step judges the conditions of a group on one target, where
--- there are any, or runs one statement on one target; a target of a group that has neither is one
--- step, and a group without targets is one step.
+-- The transform processor step by step. A step judges the conditions of a group on one target,
+-- where there are any, or runs one statement on one target; a target of a group that has neither is
+-- one step, and a group without targets is one step.
 use Rattle.std.specs.Prelude.{◌≡◌, ℕ, suc, Bool, true, false, List, [], ◌∷◌, Result, Ok, Err}
 use Rattle.conf_draft.specs.declared.draft.ErrorMode.{ErrorMode}
 use Rattle.conf_json.specs.Account.{Account}
@@ -103,7 +103,8 @@ module _ {T : Type 0} (ops : TreeOps T PathTo) where
   abbrev pub next_group : State T → List Group → Stepped (State T)
   next_group s [] = End (with_groups s (suc s.cursor.number) [] [] judging)
   next_group s (g ∷ gs) =
-      On (with_groups s (suc s.cursor.number) (g ∷ gs) (ops.targets s.tree g.context) (first_work g))
+      On (with_groups s (suc s.cursor.number) (g ∷ gs) (ops.targets s.tree g.context)
+      (first_work g))
 
   -- the targets behind the first are left of a group
   abbrev pub next_target : State T → Group → List Group → List Place → Stepped (State T)
@@ -127,7 +128,8 @@ module _ {T : Type 0} (ops : TreeOps T PathTo) where
 
   -- a statement was run, and these from that number on stand behind it
   abbrev pub ran_one :
-      State T → Here → ℕ → List PlannedStatement → Result (Stage T × Account) Note → Stepped (State T)
+      State T → Here → ℕ → List PlannedStatement → Result (Stage T × Account) Note
+      → Stepped (State T)
   ran_one s h index xs (Ok t) =
       left_on (record s { tree = t.0.tree; account = t.1 }) h (running index xs t.0.cache)
   ran_one s h index xs (Err note) = Fail s note
@@ -144,7 +146,8 @@ module _ {T : Type 0} (ops : TreeOps T PathTo) where
       (stage s.tree h.group.context h.place cache) s.account)
 
   -- a step on the targets that are left of a group
-  abbrev pub targets_step : ErrorMode → State T → Group → List Group → List Place → Stepped (State T)
+  abbrev pub targets_step : ErrorMode → State T → Group → List Group → List Place
+      → Stepped (State T)
   targets_step mode s g gs [] = next_group s gs
   targets_step mode s g gs (p ∷ ps) =
       target_step mode s (record { group = g; groups = gs; place = p; places = ps }) s.cursor.work

@@ -13,8 +13,8 @@ use pdata_tree::{Batch, Place};
 use proc_targets::{list_targets, narrow, or_stop};
 use std::alloc::Global;
 
-/// Runs the groups in order on a tree, with the matchers that are kept. The tree of a run that fails
-/// is given up.
+/// Runs the groups in order on a tree, with the matchers that are kept. The tree of a run that
+/// fails is given up.
 #[tactic(auto, using(proc_targets::proofs::Stops::stops))]
 pub fn apply_plain<'p>(
     alloc: Global,

@@ -40,8 +40,9 @@ struct Target<'p> {
     place: Place,
 }
 
-/// Does the steps of the processor that the cursor has left on a root's tree, with the matchers that
-/// are kept, until it is at its end. A run that fails is at its end, with the tree as it stands.
+/// Does the steps of the processor that the cursor has left on a root's tree, with the matchers
+/// that are kept, until it is at its end. A run that fails is at its end, with the tree as it
+/// stands.
 pub fn advance<'p>(
     alloc: Global,
     settings: &'p TransformSettings,
@@ -88,7 +89,8 @@ fn advance_on<'p>(
     requires fits { Fits site.now.settings.now (tree_of forest.old site.now.root.now) cursor.old }
     ensures steps { run_steps site.now.settings.now.error_mode (cursor.new.steps - cursor.old.steps)
         (run_of site.now.settings.now (tree_of forest.old site.now.root.now) cursor.old book.old)
-        ≡ came result (run_of site.now.settings.now (tree_of forest.new site.now.root.now) cursor.new book.new) }
+        ≡ came result (run_of site.now.settings.now (tree_of forest.new site.now.root.now)
+        cursor.new book.new) }
     ensures counted { cursor.old.steps ≤ cursor.new.steps }
     ensures fits { Fits site.now.settings.now (tree_of forest.new site.now.root.now) cursor.new }
     ensures over { cursor.new.over ≡ cursor.old.over }
@@ -120,7 +122,8 @@ fn step<'p>(
         (steps.transform_step log_trees site.now.settings.now.error_mode
         (run_of site.now.settings.now (tree_of forest.old site.now.root.now) cursor.old book.old))
         (run_of site.now.settings.now (tree_of forest.old site.now.root.now) cursor.old book.old)
-        (steps_after result cursor.old.steps) cursor.old cursor.new forest.old forest.new book.new result }
+        (steps_after result cursor.old.steps) cursor.old cursor.new forest.old forest.new
+        book.new result }
 {
     let before = cursor.steps;
     let Ok(counted) = one_more(before) else {

@@ -177,7 +177,8 @@ pub(crate) fn run_one<'p, S: Scene>(
     ensures keeps { S.keeps scene.old scene.new }
     ensures stays { Stays spot.now.mode book.old book.new }
     ensures failed { FailsUnder spot.now.mode result }
-    ensures back { OnErr result (stage (S.tree scene.new) (S.kind scene.new) (S.place scene.new) cache.new
+    ensures back { OnErr result
+        (stage (S.tree scene.new) (S.kind scene.new) (S.place scene.new) cache.new
         ≡ stage (S.tree scene.old) (S.kind scene.old) (S.place scene.old) cache.old) }
     ensures book { OnErr result (book.new ≡ book.old) }
 {

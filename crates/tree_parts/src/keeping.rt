@@ -52,7 +52,8 @@ fn keep_scopes(
     flags: &[bool],
 ) -> Result<(Scopes, &[bool]), AllocError>
     ensures part { IfOk result (λ answer. answer.0 ≡ kept_scopes flags.now scopes) }
-    ensures rest { IfOk result (λ answer. answer.1.now ≡ drop (records_of_scopes scopes) flags.now) }
+    ensures rest { IfOk result
+        (λ answer. answer.1.now ≡ drop (records_of_scopes scopes) flags.now) }
 {
     let mut part = ItemList::new(alloc);
     let mut rest = flags;

@@ -11,8 +11,8 @@ use item_list::ItemList;
 use pdata_tree::{Batch, Logs, ResourceNode, Resources, ScopeNode, Scopes};
 use std::alloc::{AllocError, Global};
 
-/// The tree with the flagged log records, and the tree with the others. Scopes and resources without
-/// log records go from both; those with log records in both stand in both.
+/// The tree with the flagged log records, and the tree with the others. Scopes and resources
+/// without log records go from both; those with log records in both stand in both.
 pub fn split_records(
     alloc: Global,
     batch: Batch,

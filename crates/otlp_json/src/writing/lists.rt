@@ -34,7 +34,8 @@ fn push_items<T: ToJson>(out: &mut Vec<u8>, items: &[T]) -> Result<(), AllocErro
 
 /// Appends a list.
 pub(crate) fn push_list<T: ToJson>(out: &mut Vec<u8>, items: &[T]) -> Result<(), AllocError>
-    ensures { OnOk result (out.new.items ≡ out.old.items ++ text_of (list_json (map T.json items.now))) }
+    ensures { OnOk result
+        (out.new.items ≡ out.old.items ++ text_of (list_json (map T.json items.now))) }
 {
     out.push(b'[')?;
     push_items(out, items)?;
@@ -42,8 +43,8 @@ pub(crate) fn push_list<T: ToJson>(out: &mut Vec<u8>, items: &[T]) -> Result<(),
     Ok(())
 }
 
-/// Appends a member that is a list, where the list isn't empty; `some` tells whether members stand before it, and the
-/// answer whether members stand then.
+/// Appends a member that is a list, where the list isn't empty; `some` tells whether members stand
+/// before it, and the answer whether members stand then.
 pub(crate) fn push_list_member<T: ToJson>(
     out: &mut Vec<u8>,
     some: bool,
@@ -51,7 +52,9 @@ pub(crate) fn push_list_member<T: ToJson>(
     items: &[T],
 ) -> Result<bool, AllocError>
     requires { IsTrue (list_all is_plain key.now) }
-    ensures { IfOk result (λ now. Adds (list_member key.now (map T.json items.now)) some out.old.items now out.new.items) }
+    ensures { IfOk result
+        (λ now. Adds (list_member key.now (map T.json items.now))
+        some out.old.items now out.new.items) }
 {
     if items.is_empty() {
         return Ok(some);

@@ -1,5 +1,5 @@
-//! Members that are left out where what they hold is as good as absent. Each call is told whether members stand before,
-//! and answers whether members stand then.
+//! Members that are left out where what they hold is as good as absent. Each call is told whether
+//! members stand before, and answers whether members stand then.
 
 ghost use Rattle.std.specs.Prelude.{◌≡◌, ◌==◌, ◌++◌, ◌≤◌, codes, length, IsTrue, IfOk, OnOk};
 ghost use Rattle.std.specs.List.{list_all};
@@ -23,10 +23,12 @@ fn push_comma_if(out: &mut Vec<u8>, some: bool) -> Result<(), AllocError>
     Ok(())
 }
 
-/// Appends a key in quotes and its colon, behind a comma where members stand before. No byte of it wants an escape.
+/// Appends a key in quotes and its colon, behind a comma where members stand before. No byte of it
+/// wants an escape.
 pub(crate) fn push_key(out: &mut Vec<u8>, some: bool, key: &str) -> Result<(), AllocError>
     requires { IsTrue (list_all is_plain key.now) }
-    ensures { OnOk result (out.new.items ≡ out.old.items ++ (comma_if some ++ (quoted_text key.now ++ codes ":"))) }
+    ensures { OnOk result
+        (out.new.items ≡ out.old.items ++ (comma_if some ++ (quoted_text key.now ++ codes ":"))) }
 {
     push_comma_if(out, some)?;
     out.push(b'"')?;
@@ -42,7 +44,8 @@ pub(crate) fn push_text_member(
     text: &Text,
 ) -> Result<bool, AllocError>
     requires { IsTrue (list_all is_plain key.now) }
-    ensures { IfOk result (λ now. Adds (spec.text_member key.now text.now) some out.old.items now out.new.items) }
+    ensures { IfOk result
+        (λ now. Adds (spec.text_member key.now text.now) some out.old.items now out.new.items) }
 {
     let text = text.as_str();
     if text.is_empty() {
@@ -60,7 +63,8 @@ pub(crate) fn push_u64_member(
     n: u64,
 ) -> Result<bool, AllocError>
     requires { IsTrue (list_all is_plain key.now) }
-    ensures { IfOk result (λ now. Adds (spec.u64_member key.now n) some out.old.items now out.new.items) }
+    ensures { IfOk result
+        (λ now. Adds (spec.u64_member key.now n) some out.old.items now out.new.items) }
 {
     if n == 0 {
         return Ok(some);
@@ -78,7 +82,8 @@ pub(crate) fn push_u32_member(
     n: u32,
 ) -> Result<bool, AllocError>
     requires { IsTrue (list_all is_plain key.now) }
-    ensures { IfOk result (λ now. Adds (spec.u32_member key.now n) some out.old.items now out.new.items) }
+    ensures { IfOk result
+        (λ now. Adds (spec.u32_member key.now n) some out.old.items now out.new.items) }
 {
     if n == 0 {
         return Ok(some);
@@ -96,7 +101,8 @@ pub(crate) fn push_i32_member(
     n: i32,
 ) -> Result<bool, AllocError>
     requires { IsTrue (list_all is_plain key.now) }
-    ensures { IfOk result (λ now. Adds (spec.i32_member key.now n) some out.old.items now out.new.items) }
+    ensures { IfOk result
+        (λ now. Adds (spec.i32_member key.now n) some out.old.items now out.new.items) }
 {
     if n == 0 {
         return Ok(some);
@@ -121,7 +127,8 @@ fn is_zero(id: &[u8]) -> bool
 // Appends the lower-case digits of at most 16 bytes in quotes.
 fn push_digits(out: &mut Vec<u8>, id: &[u8]) -> Result<(), AllocError>
     requires { length id.now ≤ 16 }
-    ensures { OnOk result (out.new.items ≡ out.old.items ++ (codes "\"" ++ (encode_lower id.now ++ codes "\""))) }
+    ensures { OnOk result
+        (out.new.items ≡ out.old.items ++ (codes "\"" ++ (encode_lower id.now ++ codes "\""))) }
 {
     let mut room = [0; 32];
     let digits = &mut room[..2 * id.len()];
@@ -135,7 +142,8 @@ fn push_digits(out: &mut Vec<u8>, id: &[u8]) -> Result<(), AllocError>
 fn push_id_bytes(out: &mut Vec<u8>, some: bool, key: &str, id: &[u8]) -> Result<bool, AllocError>
     requires plain { IsTrue (list_all is_plain key.now) }
     requires short { length id.now ≤ 16 }
-    ensures { IfOk result (λ now. Adds (spec.id_member key.now id.now) some out.old.items now out.new.items) }
+    ensures { IfOk result
+        (λ now. Adds (spec.id_member key.now id.now) some out.old.items now out.new.items) }
 {
     if is_zero(id) {
         return Ok(some);
@@ -153,7 +161,8 @@ pub(crate) fn push_id_member<const N: usize>(
 ) -> Result<bool, AllocError>
     requires plain { IsTrue (list_all is_plain key.now) }
     requires short { N ≤ 16 }
-    ensures { IfOk result (λ now. Adds (spec.id_member key.now id.now) some out.old.items now out.new.items) }
+    ensures { IfOk result
+        (λ now. Adds (spec.id_member key.now id.now) some out.old.items now out.new.items) }
 {
     push_id_bytes(out, some, key, id.as_slice())
 }

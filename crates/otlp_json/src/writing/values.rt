@@ -63,7 +63,8 @@ fn is_word(spelling: &str) -> bool
 }
 
 fn push_spelling(out: &mut Vec<u8>, spelling: &str) -> Result<(), AllocError>
-    ensures { OnOk result (out.new.items ≡ out.old.items ++ text_of (spec.double_json spelling.now)) }
+    ensures { OnOk result
+        (out.new.items ≡ out.old.items ++ text_of (spec.double_json spelling.now)) }
 {
     if is_word(spelling) {
         return push_text(out, spelling);
@@ -83,7 +84,8 @@ fn push_double_value(out: &mut Vec<u8>, spelling: &Spelling) -> Result<(), Alloc
 
 fn push_bytes_value(out: &mut Vec<u8>, bytes: &[u8]) -> Result<(), AllocError>
     ensures { OnOk result (out.new.items ≡ out.old.items
-        ++ text_of (one_json (codes "bytesValue") (text_json (base64.encode_of standard bytes.now)))) }
+        ++ text_of (one_json (codes "bytesValue")
+        (text_json (base64.encode_of standard bytes.now)))) }
 {
     let text = STANDARD.encode(*out.allocator(), bytes)?;
     out.extend_from_slice(b"{\"bytesValue\":")?;

@@ -79,7 +79,8 @@ fn both(alloc: Global, statements: &[&str]) -> Result<String, Fail> {
     )?)
 }
 
-// The tree of a root beside which none shares it, written to by a run, and how many nodes were made.
+// The tree of a root beside which none shares it, written to by a run, and how many nodes were
+// made.
 fn alone(alloc: Global, statements: &[&str]) -> Result<String, Fail> {
     let settings = settings(alloc, statements)?;
     let mut forest = Forest::new(alloc, 1)?;
