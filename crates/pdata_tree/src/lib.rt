@@ -28,7 +28,7 @@ pub use resource::{ResourceNode, ResourceTree, Scopes};
 pub use scene::Scene;
 pub use scope::{Logs, ScopeNode, ScopeTree};
 pub use seen::Seen;
-pub use walk::{look_map, read_map};
+pub use walk::look_map;
 pub use writing::{write_log, write_resource, write_scope};
 
 #[cfg(test)]

@@ -3,7 +3,6 @@
 ghost use Rattle.std.specs.Prelude.{◌≡◌, slice_get, Some, Ok};
 ghost use Rattle.std.specs.Option.{option_copied};
 ghost use Rattle.contract_words.specs.Gives.{Gives};
-ghost use Rattle.pdata_value.specs.Answers.{Answers};
 ghost use Rattle.pdata_value.specs.Wanted.{map_of};
 ghost use Rattle.pdata_value.specs.Pairs.{get};
 ghost use Rattle.pdata_value.specs.Value.{items, pairs};
@@ -34,14 +33,6 @@ pub fn look_map<'a>(map: &'a Pairs, keys: &[Key]) -> Result<Seen<'a>, EvalStop>
         [Key::Name(name), rest @ ..] => look_under(map, name, rest),
         [Key::Index(_), ..] => Err(EvalStop::Err(EvalErr::KindOf)),
     }
-}
-
-/// The value at the end of some steps below a map.
-pub fn read_map(map: &Pairs, keys: &[Key]) -> Result<Value, EvalStop>
-    ensures { Answers result (walk keys.now (map_of (pairs map.now))) }
-{
-    let seen = look_map(map, keys)?;
-    Ok(seen.into_value()?)
 }
 
 #[tactic(auto, using(crate::proofs::Walks::walk_of_nil))]
