@@ -8,5 +8,3 @@ pub mod Values
 pub mod Statements
 -- Another kind of tree, for a law.
 pub mod OneValue
--- Inside this crate: values that are lent or owned.
-pub mod Holding

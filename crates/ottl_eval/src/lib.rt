@@ -6,7 +6,6 @@ mod cache;
 mod comparing;
 mod converting;
 mod editing;
-mod held;
 mod laws;
 mod matchers;
 mod outcome;

@@ -1,15 +1,15 @@
-//! Reading and writing at a path: of the cache, or of the scene.
+//! Looking and writing at a path: of the cache, or of the scene.
 
 ghost use Rattle.std.specs.Prelude.{◌≡◌};
-ghost use Rattle.pdata_value.specs.Answers.{Answers};
 ghost use Rattle.pdata_tree.specs.Changes.{Changes};
 ghost use Rattle.pdata_tree.specs.Fields.{map_with};
 ghost use Rattle.pdata_tree.specs.Operations.{log_trees};
 ghost use Rattle.pdata_tree.specs.Paths.{level_of};
+ghost use Rattle.pdata_tree.specs.Seen.{Sees};
 ghost use Rattle.ottl_eval.specs.Stages.{PathCounts, is_cache, read_at, stage, written_at};
 
 use crate::cache::Cache;
-use pdata_tree::{Field, Key, PathTo, ResourceNode, Scene, read_map, write_resource};
+use pdata_tree::{Field, Key, PathTo, ResourceNode, Scene, Seen, look_map, write_resource};
 use pdata_value::{EvalStop, Pairs, Text, Value};
 use std::alloc::Global;
 use std::mem;
@@ -20,20 +20,20 @@ fn is_cache(field: Field) -> bool
     matches!(field, Field::Cache)
 }
 
-/// The value at a path.
-pub(crate) fn read_path<S: Scene>(
-    scene: &S,
-    cache: &Cache,
+/// The value at a path, as it is seen there.
+pub(crate) fn look_path<'s, S: Scene>(
+    scene: &'s S,
+    cache: &'s Cache,
     path: &PathTo,
-) -> Result<Value, EvalStop>
+) -> Result<Seen<'s>, EvalStop>
     requires { S.stands scene.now }
-    ensures { Answers result (read_at log_trees path.now
+    ensures { Sees result (read_at log_trees path.now
         (stage (S.tree scene.now) (S.kind scene.now) (S.place scene.now) cache.now)) }
 {
     if is_cache(path.field) {
-        read_map(cache, path.keys.as_slice())
+        look_map(cache, path.keys.as_slice())
     } else {
-        scene.read(path)
+        scene.look(path)
     }
 }
 

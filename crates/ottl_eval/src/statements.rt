@@ -3,6 +3,8 @@
 ghost use Rattle.std.specs.Prelude.{◌≡◌};
 ghost use Rattle.pdata_value.specs.Answers.{Answers};
 ghost use Rattle.pdata_tree.specs.Operations.{log_trees};
+ghost use Rattle.pdata_tree.specs.Seen.{Sees, seen};
+ghost use Rattle.ottl_eval.specs.Editing.{edited};
 ghost use Rattle.ottl_eval.specs.Stages.{stage};
 ghost use Rattle.ottl_eval.specs.Statements as spec;
 ghost use Rattle.ottl_eval.specs.Statements.{OutcomeCounts, Runs};
@@ -12,11 +14,11 @@ use crate::cache::Cache;
 use crate::editing::edited;
 use crate::matchers::KeptMatchers;
 use crate::outcome::{Outcome, stopped};
-use crate::paths::{read_path, write_path};
+use crate::paths::{look_path, write_path};
 use crate::values::{eval_each, eval_truth, eval_with};
 use func_text::Matchers;
 use ottl_plan::{Edit, Editor, PlannedCondition, PlannedExpr, PlannedStatement};
-use pdata_tree::{PathTo, Scene};
+use pdata_tree::{PathTo, Scene, Seen};
 use pdata_value::{EvalStop, Value};
 use std::alloc::Global;
 
@@ -178,30 +180,43 @@ fn new_value<'p, S: Scene>(
     let old = old_value(scene, cache, edit.editor, &edit.target)?;
     let exprs = edit.arguments.values.as_slice();
     let values = eval_each(alloc, exprs, scene, cache, matchers)?;
+    edited_where_seen(alloc, matchers, edit, old, values.as_slice())
+}
+
+// A value that is lent is judged where it stands.
+fn edited_where_seen<'p>(
+    alloc: Global,
+    matchers: &mut KeptMatchers<'p>,
+    edit: &'p Edit,
+    old: Seen<'_>,
+    values: &[Value],
+) -> Result<Option<Value>, EvalStop>
+    ensures { Answers result
+        (edited edit.now.editor (seen old.entry) values.now edit.now.arguments.literals) }
+{
     let literals = edit.arguments.literals.as_slice();
-    edited(
-        alloc,
-        matchers,
-        edit.editor,
-        &old,
-        values.as_slice(),
-        literals,
-    )
+    match old {
+        Seen::Lent(old) => edited(alloc, matchers, edit.editor, old, values, literals),
+        seen => {
+            let old = seen.into_value()?;
+            edited(alloc, matchers, edit.editor, &old, values, literals)
+        }
+    }
 }
 
 // `set` doesn't read its target.
-fn old_value<S: Scene>(
-    scene: &S,
-    cache: &Cache,
+fn old_value<'s, S: Scene>(
+    scene: &'s S,
+    cache: &'s Cache,
     editor: Editor,
     path: &PathTo,
-) -> Result<Value, EvalStop>
+) -> Result<Seen<'s>, EvalStop>
     requires { S.stands scene.now }
-    ensures { Answers result (spec.old_value log_trees editor path.now
+    ensures { Sees result (spec.old_value log_trees editor path.now
         (stage (S.tree scene.now) (S.kind scene.now) (S.place scene.now) cache.now)) }
 {
     match editor {
-        Editor::Set => Ok(Value::Empty),
-        _ => read_path(scene, cache, path),
+        Editor::Set => Ok(Seen::Made(Value::Empty)),
+        _ => look_path(scene, cache, path),
     }
 }

@@ -13,6 +13,8 @@ pub mod Operations
 -- What a call that writes leaves, and the nodes that it makes.
 pub mod Changes
 pub mod Scenes
+-- What is looked at.
+pub mod Seen
 -- What values and pairs are, for those who cite trees.
 pub use Rattle.pdata_value.specs.Value
 pub use Rattle.pdata_value.specs.Pairs

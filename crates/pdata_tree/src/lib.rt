@@ -12,6 +12,7 @@ mod record;
 mod resource;
 mod scene;
 mod scope;
+mod seen;
 mod tree_access;
 mod walk;
 mod writing;
@@ -21,12 +22,13 @@ pub use ids::{id_of, id_text};
 pub use path::{Field, Key, Keys, PathTo};
 pub use place::{Context, Place};
 pub use plain::PlainScene;
-pub use reading::{read_log, read_resource, read_scope};
+pub use reading::{look_log, look_resource, look_scope};
 pub use record::LogRecord;
 pub use resource::{ResourceNode, ResourceTree, Scopes};
 pub use scene::Scene;
 pub use scope::{Logs, ScopeNode, ScopeTree};
-pub use walk::{read_below, read_map};
+pub use seen::Seen;
+pub use walk::look_map;
 pub use writing::{write_log, write_resource, write_scope};
 
 #[cfg(test)]

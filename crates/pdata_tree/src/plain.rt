@@ -8,7 +8,8 @@ use crate::batch::Batch;
 use crate::path::PathTo;
 use crate::place::{Context, Place};
 use crate::scene::Scene;
-use crate::tree_access::{read_at, write_at};
+use crate::seen::Seen;
+use crate::tree_access::{look_at, write_at};
 use pdata_value::{EvalStop, Value};
 
 /// A scene on a lent tree that shares nothing. At a place that isn't in the tree every call is KindOf.
@@ -62,8 +63,13 @@ impl Scene for PlainScene<'_> {
         self.context
     }
 
+    fn look<'s>(&'s self, path: &PathTo) -> Result<Seen<'s>, EvalStop> {
+        look_at(self.tree, self.context, self.place, path)
+    }
+
     fn read(&self, path: &PathTo) -> Result<Value, EvalStop> {
-        read_at(self.tree, self.context, self.place, path)
+        let seen = self.look(path)?;
+        Ok(seen.into_value()?)
     }
 
     fn write(&mut self, path: &PathTo, value: Value) -> Result<(), EvalStop> {

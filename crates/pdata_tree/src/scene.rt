@@ -5,6 +5,7 @@ ghost use Rattle.pdata_value.specs.Answers.{Answers};
 ghost use Rattle.pdata_tree.specs.Access.{at_path, with_path};
 ghost use Rattle.pdata_tree.specs.Changes.{Changes};
 ghost use Rattle.pdata_tree.specs.Paths.{level_of};
+ghost use Rattle.pdata_tree.specs.Seen.{Sees};
 ghost use Rattle.pdata_tree.specs.Scenes.{Numbers, Counts};
 ghost use Rattle.pdata_tree.specs.declared.batch.Batch.{Batch};
 ghost use Rattle.pdata_tree.specs.declared.place.Context.{Context};
@@ -12,6 +13,7 @@ ghost use Rattle.pdata_tree.specs.declared.place.Place.{Place};
 
 use crate::path::PathTo;
 use crate::place::Context;
+use crate::seen::Seen;
 use pdata_value::{EvalStop, Value};
 
 /// A tree with a context and a place in it, at which statements read and write. The tree may share nodes with others: then
@@ -37,6 +39,11 @@ pub trait Scene {
 
     fn context(&self) -> Context
         ensures { result ≡ kind self.now };
+
+    /// The value at a path, seen where it stands: what `read` answers, without a copy where the tree holds it.
+    fn look<'s>(&'s self, path: &PathTo) -> Result<Seen<'s>, EvalStop>
+        requires { stands self.now }
+        ensures { Sees result (at_path path.now (tree self.now) (kind self.now) (place self.now)) };
 
     /// The value at a path, as the table of paths says. A field that the context doesn't have, and the cache, are KindOf.
     fn read(&self, path: &PathTo) -> Result<Value, EvalStop>

@@ -1,28 +1,29 @@
-//! Reading and writing at a path of a tree.
+//! Looking and writing at a path of a tree.
 
-ghost use Rattle.pdata_value.specs.Answers.{Answers};
 ghost use Rattle.pdata_tree.specs.Access as spec;
 ghost use Rattle.pdata_tree.specs.Changes.{Changes};
 ghost use Rattle.pdata_tree.specs.Fields.{log_takes};
+ghost use Rattle.pdata_tree.specs.Seen.{Sees};
 
 use crate::batch::{Batch, Resources};
 use crate::path::PathTo;
 use crate::place::{Context, Place};
-use crate::reading::{read_log, read_resource, read_scope};
+use crate::reading::{look_log, look_resource, look_scope};
 use crate::resource::{ResourceTree, Scopes};
 use crate::scope::Logs;
+use crate::seen::Seen;
 use crate::writing::{write_log, write_resource, write_scope};
 use pdata_value::{EvalErr, EvalStop, Value};
 use std::alloc::Global;
 
-/// The value at a path.
-pub(crate) fn read_at(
-    batch: &Batch,
+/// The value at a path, as it is seen there.
+pub(crate) fn look_at<'a>(
+    batch: &'a Batch,
     context: Context,
     place: Place,
     path: &PathTo,
-) -> Result<Value, EvalStop>
-    ensures { Answers result (spec.at_path path.now batch.now context place) }
+) -> Result<Seen<'a>, EvalStop>
+    ensures { Sees result (spec.at_path path.now batch.now context place) }
 {
     if !path.field.is_of(context) {
         return Err(EvalStop::Err(EvalErr::KindOf));
@@ -31,31 +32,32 @@ pub(crate) fn read_at(
     match batch.resources.at(place.resource as usize) {
         Some(resource) => {
             let level = path.field.level_of(context);
-            read_in(alloc, resource, level, place, path)
+            look_in(alloc, resource, level, place, path)
         }
         None => Err(EvalStop::Err(EvalErr::KindOf)),
     }
 }
 
-fn read_in(
+fn look_in<'a>(
     alloc: Global,
-    resource: &ResourceTree,
+    resource: &'a ResourceTree,
     level: Context,
     place: Place,
     path: &PathTo,
-) -> Result<Value, EvalStop>
-    ensures { Answers result (spec.read_in level path.now.field path.now.keys place resource.now) }
+) -> Result<Seen<'a>, EvalStop>
+    ensures { Sees result
+        (spec.read_in level path.now.field path.now.keys place resource.now) }
 {
     let keys = path.keys.as_slice();
     match level {
-        Context::Resource => read_resource(&resource.node, path.field, keys),
+        Context::Resource => look_resource(&resource.node, path.field, keys),
         Context::Scope => match resource.scopes.at(place.scope as usize) {
-            Some(scope) => read_scope(&scope.node, path.field, keys),
+            Some(scope) => look_scope(&scope.node, path.field, keys),
             None => Err(EvalStop::Err(EvalErr::KindOf)),
         },
         Context::Log => match resource.scopes.at(place.scope as usize) {
             Some(scope) => match scope.logs.at(place.log as usize) {
-                Some(log) => read_log(alloc, log, path.field, keys),
+                Some(log) => look_log(alloc, log, path.field, keys),
                 None => Err(EvalStop::Err(EvalErr::KindOf)),
             },
             None => Err(EvalStop::Err(EvalErr::KindOf)),

@@ -3,44 +3,45 @@
 ghost use Rattle.std.specs.Prelude.{◌≡◌, slice_get, Some, Ok};
 ghost use Rattle.std.specs.Option.{option_copied};
 ghost use Rattle.contract_words.specs.Gives.{Gives};
-ghost use Rattle.pdata_value.specs.Answers.{Answers};
 ghost use Rattle.pdata_value.specs.Wanted.{map_of};
 ghost use Rattle.pdata_value.specs.Pairs.{get};
 ghost use Rattle.pdata_value.specs.Value.{items, pairs};
+ghost use Rattle.pdata_tree.specs.Seen.{Sees};
 ghost use Rattle.pdata_tree.specs.Walk.{below, in_range, or_nil, walk};
 
 use crate::path::Key;
+use crate::seen::Seen;
 use pdata_value::{EvalErr, EvalStop, Pairs, Text, Value, Values};
 
-/// The value at the end of some steps below a value.
-pub fn read_below(value: &Value, keys: &[Key]) -> Result<Value, EvalStop>
-    ensures { Answers result (walk keys.now value.now) }
+/// The value at the end of some steps below a value, as it is seen there.
+pub(crate) fn look_below<'a>(value: &'a Value, keys: &[Key]) -> Result<Seen<'a>, EvalStop>
+    ensures { Sees result (walk keys.now value.now) }
 {
     match look(value, keys) {
-        Ok(Some(found)) => Ok(found.copy()?),
-        Ok(None) => Ok(Value::Empty),
+        Ok(Some(found)) => Ok(Seen::Lent(found)),
+        Ok(None) => Ok(Seen::Made(Value::Empty)),
         Err(error) => Err(EvalStop::Err(error)),
     }
 }
 
-/// The value at the end of some steps below a map.
-pub fn read_map(map: &Pairs, keys: &[Key]) -> Result<Value, EvalStop>
-    ensures { Answers result (walk keys.now (map_of (pairs map.now))) }
+/// The value at the end of some steps below a map, as it is seen there. A whole map is copied.
+pub fn look_map<'a>(map: &'a Pairs, keys: &[Key]) -> Result<Seen<'a>, EvalStop>
+    ensures { Sees result (walk keys.now (map_of (pairs map.now))) }
 {
     match keys {
-        [] => Ok(Value::Map(map.copy()?)),
-        [Key::Name(name), rest @ ..] => read_under(map, name, rest),
+        [] => Ok(Seen::Made(Value::Map(map.copy()?))),
+        [Key::Name(name), rest @ ..] => look_under(map, name, rest),
         [Key::Index(_), ..] => Err(EvalStop::Err(EvalErr::KindOf)),
     }
 }
 
 #[tactic(auto, using(crate::proofs::Walks::walk_of_nil))]
-fn read_under(map: &Pairs, name: &Text, keys: &[Key]) -> Result<Value, EvalStop>
-    ensures { Answers result (walk keys.now (or_nil (get (pairs map.now) name.now))) }
+fn look_under<'a>(map: &'a Pairs, name: &Text, keys: &[Key]) -> Result<Seen<'a>, EvalStop>
+    ensures { Sees result (walk keys.now (or_nil (get (pairs map.now) name.now))) }
 {
     match map.get(name.as_str()) {
-        Some(value) => read_below(value, keys),
-        None => Ok(Value::Empty),
+        Some(value) => look_below(value, keys),
+        None => Ok(Seen::Made(Value::Empty)),
     }
 }
 

@@ -4,7 +4,7 @@ ghost use Rattle.std.specs.Prelude.{◌≡◌};
 
 use crate::forest::Forest;
 use crate::root::Root;
-use pdata_tree::{Context, PathTo, Place, Scene};
+use pdata_tree::{Context, PathTo, Place, Scene, Seen};
 use pdata_value::{EvalStop, Value};
 
 /// A scene on a lent forest, over the tree of one of its roots.
@@ -80,9 +80,14 @@ impl Scene for ForestScene<'_> {
         self.context
     }
 
-    fn read(&self, path: &PathTo) -> Result<Value, EvalStop> {
+    fn look<'s>(&'s self, path: &PathTo) -> Result<Seen<'s>, EvalStop> {
         self.forest
-            .read_at(&self.root, self.context, self.place, path)
+            .look_at(&self.root, self.context, self.place, path)
+    }
+
+    fn read(&self, path: &PathTo) -> Result<Value, EvalStop> {
+        let seen = self.look(path)?;
+        Ok(seen.into_value()?)
     }
 
     fn write(&mut self, path: &PathTo, value: Value) -> Result<(), EvalStop> {

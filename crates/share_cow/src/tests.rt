@@ -6,7 +6,8 @@ ghost use Rattle.pdata_tree.specs.Tree.{IsCountable, nodes, nodes_of_scopes};
 use crate::{Forest, Root, RootView, Roots};
 use item_list::ItemList;
 use pdata_tree::{
-    Batch, LogRecord, Logs, ResourceNode, ResourceTree, Resources, ScopeNode, ScopeTree, Scopes,
+    Batch, Context, Field, LogRecord, Logs, PathTo, Place, ResourceNode, ResourceTree, Resources,
+    Scene, ScopeNode, ScopeTree, Scopes, Seen,
 };
 use pdata_value::{Pairs, Text, Value};
 use std::alloc::{AllocError, Global};
@@ -134,6 +135,35 @@ fn copy_of_one_record(alloc: Global) -> Result<usize, AllocError> {
 fn a_tree_is_seen_where_it_stands(rt: HostRuntime) -> Result<(), Fail> {
     assert_eq!(rt; seen_of_one_record(rt.alloc())?, (1, 1, 1, 1));
     assert_eq!(rt; copy_of_one_record(rt.alloc())?, 1);
+    Ok(())
+}
+
+// Whether the text of a record is lent where it stands.
+fn text_is_lent(alloc: Global) -> Result<bool, AllocError> {
+    let mut forest = Forest::new(alloc, 2)?;
+    let root = forest.plant(one_record(alloc)?)?;
+    let place = Place {
+        resource: 0,
+        scope: 0,
+        log: 0,
+    };
+    if !forest.view(&root).has(Context::Log, place) {
+        return Ok(false);
+    }
+    let path = PathTo {
+        field: Field::SeverityText,
+        keys: ItemList::new(alloc),
+    };
+    let scene = forest.scene(&root, Context::Log, place);
+    match scene.look(&path) {
+        Ok(Seen::Text(text)) => Ok(text.as_str() == "INFO"),
+        _ => Ok(false),
+    }
+}
+
+#[test]
+fn a_text_is_lent_where_it_stands(rt: HostRuntime) -> Result<(), Fail> {
+    assert!(rt; text_is_lent(rt.alloc())?);
     Ok(())
 }
 

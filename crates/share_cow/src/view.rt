@@ -145,7 +145,7 @@ impl<'a> RootView<'a> {
     }
 
     /// What a resource holds itself.
-    pub fn resource(&self, place: Place) -> &ResourceNode
+    pub fn resource(&self, place: Place) -> &'a ResourceNode
         requires { IsPlaceIn self.now Context.Resource place }
         ensures { option_map (λ r. r.node) (resource_at self.now place) ≡ Some result.now }
     {
@@ -154,7 +154,7 @@ impl<'a> RootView<'a> {
     }
 
     /// What a scope holds itself.
-    pub fn scope(&self, place: Place) -> &ScopeNode
+    pub fn scope(&self, place: Place) -> &'a ScopeNode
         requires { IsPlaceIn self.now Context.Scope place }
         ensures { option_map (λ s. s.node) (scope_at self.now place) ≡ Some result.now }
     {
@@ -163,7 +163,7 @@ impl<'a> RootView<'a> {
         &self.scopes.get(scope).content
     }
 
-    pub fn log(&self, place: Place) -> &LogRecord
+    pub fn log(&self, place: Place) -> &'a LogRecord
         requires { IsPlaceIn self.now Context.Log place }
         ensures { log_at self.now place ≡ Some result.now }
     {

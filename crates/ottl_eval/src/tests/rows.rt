@@ -2,8 +2,9 @@
 //! `[1`, and a map of one value as `{1`.
 
 use crate::arithmetic::arithmetic;
-use crate::comparing::compared;
+use crate::comparing::{compared, compared_where_seen};
 use ottl_parse::Sign;
+use pdata_tree::Seen;
 use pdata_value::{Bytes, EvalStop, Pairs, Spelling, Text, Value, Values};
 use std::alloc::Global;
 use std::test::Fail;
@@ -142,6 +143,54 @@ fn each_pair_of_kinds_is_unequal(rt: HostRuntime) -> Result<(), Fail> {
             "010000010000010000010000010000010000",
             "{left}"
         );
+    }
+    Ok(())
+}
+
+// How two notes compare where neither, the left, the right, and each is lent as a text by itself.
+fn compare_where_seen(
+    alloc: Global,
+    left: &str,
+    right: &str,
+    sign: Sign,
+) -> Result<[bool; 4], Fail> {
+    let left_text = Text::from_str(alloc, left)?;
+    let right_text = Text::from_str(alloc, right)?;
+    let left = value(alloc, left)?;
+    let right = value(alloc, right)?;
+    Ok([
+        matches!(
+            compared_where_seen(sign, &Seen::Lent(&left), &Seen::Lent(&right)),
+            Ok(true)
+        ),
+        matches!(
+            compared_where_seen(sign, &Seen::Text(&left_text), &Seen::Lent(&right)),
+            Ok(true)
+        ),
+        matches!(
+            compared_where_seen(sign, &Seen::Lent(&left), &Seen::Text(&right_text)),
+            Ok(true)
+        ),
+        matches!(
+            compared_where_seen(sign, &Seen::Text(&left_text), &Seen::Text(&right_text)),
+            Ok(true)
+        ),
+    ])
+}
+
+#[test]
+fn texts_are_compared_where_they_stand(rt: HostRuntime) -> Result<(), Fail> {
+    for (left, sign, right, want) in [
+        ("ERROR", Sign::Equal, "ERROR", [true; 4]),
+        ("ERROR", Sign::Unequal, "ERRO", [true; 4]),
+        ("a", Sign::Less, "b", [true; 4]),
+        ("b", Sign::AtMost, "a", [false; 4]),
+        ("5", Sign::Equal, "t", [false; 4]),
+        ("5", Sign::Unequal, "t", [true; 4]),
+        ("nil", Sign::Equal, "5", [false; 4]),
+    ] {
+        let found = compare_where_seen(rt.alloc(), left, right, sign)?;
+        assert_eq!(rt; found, want, "{left} and {right}");
     }
     Ok(())
 }

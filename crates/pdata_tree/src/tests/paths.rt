@@ -2,7 +2,7 @@
 
 use crate::{
     Batch, Context, Field, Key, Keys, LogRecord, PathTo, Place, PlainScene, ResourceNode,
-    ResourceTree, Scene, ScopeNode, ScopeTree,
+    ResourceTree, Scene, ScopeNode, ScopeTree, Seen,
 };
 use item_list::ItemList;
 use pdata_value::{Bytes, EvalErr, EvalStop, Pairs, Spelling, Text, Value, Values};
@@ -268,6 +268,37 @@ fn numbers_lead_into_lists(rt: HostRuntime) -> Result<(), Fail> {
     assert_eq!(rt; read_keys(alloc, Field::Body, &["l", "k"])?, 'K');
     assert_eq!(rt; read_keys(alloc, Field::Attributes, &["#0"])?, 'K');
     assert_eq!(rt; read_keys(alloc, Field::Flags, &["k"])?, 'K');
+    Ok(())
+}
+
+// How what keys below a field of that record lead to is seen: `v` and `t` where a value or a text is lent, `m` where one
+// is made.
+fn look_keys(alloc: Global, field: Field, keys: &[&str]) -> Result<char, AllocError> {
+    let path = path(alloc, field, keys)?;
+    let mut batch = with_children(alloc)?;
+    let scene = PlainScene::new(&mut batch, Context::Log, FIRST);
+    Ok(match scene.look(&path) {
+        Ok(Seen::Lent(_)) => 'v',
+        Ok(Seen::Text(_)) => 't',
+        Ok(Seen::Made(_)) => 'm',
+        Err(stop) => letter(Err(stop)),
+    })
+}
+
+#[test]
+fn what_is_held_is_lent(rt: HostRuntime) -> Result<(), Fail> {
+    let alloc = rt.alloc();
+    assert_eq!(rt; look_keys(alloc, Field::Attributes, &["a", "b"])?, 'v');
+    assert_eq!(rt; look_keys(alloc, Field::Attributes, &["a", "x"])?, 'm');
+    assert_eq!(rt; look_keys(alloc, Field::Body, &["l", "#0"])?, 'v');
+    assert_eq!(rt; look_keys(alloc, Field::Body, &["l", "#1"])?, 'R');
+    assert_eq!(rt; look_keys(alloc, Field::SeverityText, &[])?, 't');
+    assert_eq!(rt;
+        look_keys(alloc, Field::InstrumentationScopeName, &[])?,
+        't'
+    );
+    assert_eq!(rt; look_keys(alloc, Field::SeverityNumber, &[])?, 'm');
+    assert_eq!(rt; look_keys(alloc, Field::Name, &[])?, 'K');
     Ok(())
 }
 

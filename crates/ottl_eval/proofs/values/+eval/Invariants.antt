@@ -1,5 +1,4 @@
 use Rattle.std.proofs.Common.{◌≡◌, ◌++◌, [], drop, map, Ok}
-use Rattle.ottl_eval.specs.Holding.{held}
 use Rattle.ottl_eval.specs.Stages.{stage}
 use Rattle.ottl_eval.specs.Values.{all_hold, any_holds, part_values, parts_put, term_of, terms_onto, terms_worth, value, values}
 use Rattle.pdata_tree.specs.Operations.{log_trees}
@@ -23,7 +22,7 @@ invariant-eval_parts-loop-part g l =
 abbrev pub invariant-eval_terms-loop-term : goal.invariant-eval_terms-loop-term
 invariant-eval_terms-loop-term g l =
     let s = stage (g.S.Scene.tree l.scene) (g.S.Scene.kind l.scene) (g.S.Scene.place l.scene) l.cache in
-    terms_onto (held l.so_far) (map (term_of log_trees) (drop l.term-index l.rest)) s
+    terms_onto l.so_far (map (term_of log_trees) (drop l.term-index l.rest)) s
     ≡ terms_worth (map (term_of log_trees) l.terms) s
 
 -- the conditions left decide as all do
