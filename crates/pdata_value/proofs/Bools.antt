@@ -1,5 +1,5 @@
 -- Truths and their parts, and tests on bytes.
-use Rattle.std.proofs.Common.{◌≡◌, ℕ, Bool, true, false, List, refl, arith, cond}
+use Rattle.std.proofs.Common.{◌≡◌, ℕ, Bool, true, false, not, List, refl, arith, cond}
 use Rattle.std.specs.Prelude.{◌&&◌, ◌||◌}
 use Rattle.std.specs.Str.{bytes_eq}
 use Rattle.std.proofs.lemmas.Slice.Eq.{bytes_eq-Decides}
@@ -44,3 +44,11 @@ bytes_same xs ys h = grind (arith, bytes_eq-Decides)
 
 pub bytes_self : (xs : List ℕ) → bytes_eq xs xs ≡ true
 bytes_self xs = bytes_same xs xs refl
+
+pub not_true : (b : Bool) → not b ≡ true → b ≡ false
+not_true true h = absurd cc
+not_true false h = refl
+
+pub not_false : (b : Bool) → not b ≡ false → b ≡ true
+not_false true h = refl
+not_false false h = absurd cc

@@ -2,6 +2,7 @@ pub mod Bools
 pub mod Maps
 pub mod PairSteps
 pub mod Puts
+pub mod Positions
 pub mod Measures
 pub mod DoubleCases
 pub mod Sames

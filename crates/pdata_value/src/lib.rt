@@ -4,6 +4,7 @@
 mod bytes;
 mod doubles;
 mod error;
+mod index;
 mod laws;
 mod measure;
 mod merge;

@@ -4,7 +4,7 @@ ghost use Rattle.std.specs.Prelude.{◌≡◌, ◌++◌, ◌∷◌, [], length, 
 ghost use Rattle.std.specs.Option.{option_copied};
 ghost use Rattle.pdata_value.specs.Value.{pairs};
 ghost use Rattle.pdata_value.specs.Pairs.{get, has_key, put};
-ghost use Rattle.pdata_value.specs.Places.{PutsAt};
+ghost use Rattle.pdata_value.specs.Places.{PutsAt, position};
 
 use crate::text::Text;
 use crate::value::Value;
@@ -145,9 +145,17 @@ pub(crate) fn has_key(list: &[(Text, Value)], key: &str) -> bool
     false
 }
 
-// Where `put` changes a pair, if it does.
+// Where the first pair with the key stands, which `put` changes.
+#[tactic(auto, using(crate::proofs::Positions::puts_at))]
 pub(crate) fn find(list: &[(Text, Value)], key: &str) -> Option<usize>
-    ensures { PutsAt list.now key.now result }
+    ensures place { result ≡ position list.now key.now }
+    ensures puts { PutsAt list.now key.now result }
+{
+    first_place(list, key)
+}
+
+fn first_place(list: &[(Text, Value)], key: &str) -> Option<usize>
+    ensures { result ≡ position list.now key.now }
 {
     for (i, pair) in list.iter().enumerate() {
         if pair.0.as_str() == key {

@@ -1,14 +1,17 @@
 //! When two values are the same.
 
-ghost use Rattle.std.specs.Prelude.{◌≡◌, Some};
+ghost use Rattle.std.specs.Prelude.{◌≡◌, IfSome, Some};
 ghost use Rattle.pdata_value.specs.Value.{pairs as pairs_of};
 ghost use Rattle.pdata_value.specs.Pairs.{get};
 ghost use Rattle.pdata_value.specs.Same.{same, same_items, same_answer, same_keys, same_pairs};
 ghost use Rattle.pdata_value.specs.Places.{keys_within};
+ghost use Rattle.pdata_value.specs.Index.{Knows};
 
-use crate::pairs::{Pairs, has_key};
+use crate::index::{has_place, is_first, places_of, value_of};
+use crate::pairs::Pairs;
 use crate::text::Text;
 use crate::value::Value;
+use std::collections::BTreeMap;
 
 impl Value {
     /// Whether the values are equal, where doubles are compared by their spelling and maps by the first value of each
@@ -61,7 +64,12 @@ impl Pairs {
     pub fn same(&self, other: &Pairs) -> bool
         ensures { result ≡ same_pairs (pairs_of self.now) (pairs_of other.now) }
     {
-        are_same_at_keys(self.as_slice(), other) && has_keys(self.as_slice(), other.as_slice())
+        let alloc = self.items.allocator();
+        let ours = self.as_slice();
+        let theirs = other.as_slice();
+        let places = places_of(alloc, ours, theirs.len());
+        let other_places = places_of(alloc, theirs, ours.len());
+        are_same_at_keys(ours, &places, theirs, &other_places) && has_keys(ours, &places, theirs)
     }
 }
 
@@ -83,12 +91,19 @@ fn are_same(values: &[Value], others: &[Value]) -> bool
 
 // The first value of each key of `pairs` is the same in both.
 #[cycle(same)]
-fn are_same_at_keys(pairs: &[(Text, Value)], others: &Pairs) -> bool
-    ensures { result ≡ same_keys pairs.now pairs.now (pairs_of others.now) }
+fn are_same_at_keys(
+    pairs: &[(Text, Value)],
+    index: &Option<BTreeMap<&str, usize>>,
+    others: &[(Text, Value)],
+    other_index: &Option<BTreeMap<&str, usize>>,
+) -> bool
+    requires pairs { IfSome index.now (λ places. Knows places pairs.now) }
+    requires others { IfSome other_index.now (λ places. Knows places others.now) }
+    ensures { result ≡ same_keys pairs.now pairs.now others.now }
 {
     for (i, pair) in pairs.iter().enumerate() {
         let key = pair.0.as_str();
-        if !has_key(&pairs[..i], key) && !is_same_at_key(&pair.1, key, others) {
+        if is_first(pairs, index, i) && !is_same_at_key(&pair.1, key, others, other_index) {
             return false;
         }
     }
@@ -96,21 +111,32 @@ fn are_same_at_keys(pairs: &[(Text, Value)], others: &Pairs) -> bool
 }
 
 #[cycle(same)]
-fn is_same_at_key(value: &Value, key: &str, others: &Pairs) -> bool
-    ensures { result ≡ same_answer (Some value.now) (get (pairs_of others.now) key.now) }
+fn is_same_at_key(
+    value: &Value,
+    key: &str,
+    others: &[(Text, Value)],
+    other_index: &Option<BTreeMap<&str, usize>>,
+) -> bool
+    requires { IfSome other_index.now (λ places. Knows places others.now) }
+    ensures { result ≡ same_answer (Some value.now) (get others.now key.now) }
 {
-    match others.get(key) {
+    match value_of(others, other_index, key) {
         Some(other) => value.same(other),
         None => false,
     }
 }
 
-// Each key of `pairs` is a key of `others`.
-fn has_keys(others: &[(Text, Value)], pairs: &[(Text, Value)]) -> bool
-    ensures { result ≡ keys_within pairs.now others.now }
+// Each key of `others` is a key of `pairs`.
+fn has_keys(
+    pairs: &[(Text, Value)],
+    index: &Option<BTreeMap<&str, usize>>,
+    others: &[(Text, Value)],
+) -> bool
+    requires { IfSome index.now (λ places. Knows places pairs.now) }
+    ensures { result ≡ keys_within others.now pairs.now }
 {
-    for pair in pairs {
-        if !has_key(others, pair.0.as_str()) {
+    for pair in others {
+        if !has_place(pairs, index, pair.0.as_str()) {
             return false;
         }
     }

@@ -7,6 +7,8 @@ use crate::{
 use std::alloc::{AllocError, Global};
 use std::test::Fail;
 
+mod keys;
+
 // A map from keys to integers.
 fn map_of(alloc: Global, entries: &[(&str, i64)]) -> Result<Pairs, AllocError> {
     let mut map = Pairs::new(alloc);

@@ -1,5 +1,4 @@
 use Rattle.std.proofs.Common.{◌≡◌, true, take, drop}
-use Rattle.pdata_value.specs.Value.{pairs}
 use Rattle.pdata_value.specs.Same.{same_items, same_keys}
 use Rattle.pdata_value.proofs.+same.Given as goal
 
@@ -9,4 +8,4 @@ invariant-same::are_same-loop-i l = same_items (drop l.i l.values) (drop l.i l.o
 
 -- so far both maps have the same first values
 abbrev pub invariant-same::are_same_at_keys-loop-i : goal.invariant-same::are_same_at_keys-loop-i
-invariant-same::are_same_at_keys-loop-i l = same_keys (take l.i l.pairs) l.pairs (pairs l.others) ≡ true
+invariant-same::are_same_at_keys-loop-i l = same_keys (take l.i l.pairs) l.pairs l.others ≡ true

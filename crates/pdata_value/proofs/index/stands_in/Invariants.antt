@@ -1,6 +1,6 @@
 use Rattle.std.proofs.Common.{◌≡◌, drop}
 use Rattle.pdata_value.specs.Pairs.{is_listed}
-use Rattle.pdata_value.proofs.merge.is_listed.Given as goal
+use Rattle.pdata_value.proofs.index.stands_in.Given as goal
 
 -- the keys left answer as all of them do
 abbrev pub invariant-loop-listed : goal.invariant-loop-listed
