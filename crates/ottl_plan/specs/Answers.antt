@@ -1,5 +1,5 @@
--- What planning answers: what is planned, or the first fault. Want of memory is free, and PatternSize is
--- the answer of the maker of patterns.
+-- What planning answers: what is planned, or the first fault. Want of memory is free, and
+-- PatternSize is the answer of the maker of patterns.
 use Rattle.std.specs.Prelude.{◌≡◌, ℕ, List, [], ◌∷◌, Option, Some, None, IfSome, IfErr, Result, Ok, Err}
 use Rattle.contract_words.specs.Causes.{Rose}
 use Rattle.contract_words.specs.Gives.{Gives}
@@ -15,7 +15,8 @@ fault kind at = record { kind = kind; at = at }
 
 infixl 10 ◌>>=◌
 -- what a step gives goes on into the next; the first fault stays
-abbrev pub ◌>>=◌ : {A B : Type 0} → Result A PlanFault → (A → Result B PlanFault) → Result B PlanFault
+abbrev pub ◌>>=◌ : {A B : Type 0} → Result A PlanFault → (A → Result B PlanFault)
+    → Result B PlanFault
 (Ok x) >>= f = f x
 (Err e) >>= f = Err e
 
@@ -34,7 +35,8 @@ abbrev pub decided : PlanStop → Option PlanFault
 decided (Fault fault) = decided_fault fault.kind fault
 decided NoMemory = None
 
--- what was planned is what is meant, and a fault is the first one, unless the maker or memory ended it
+-- what was planned is what is meant, and a fault is the first one, unless the maker or memory ended
+-- it
 abbrev pub Plans : {X : Type 0} → Result X PlanStop → Result X PlanFault → Type 0
 Plans result meant = Gives (λ x. x) decided result meant
 
@@ -48,8 +50,8 @@ abbrev pub refused_at : PlanStop → Option ℕ
 refused_at (Fault fault) = size_place fault.kind fault.at
 refused_at NoMemory = None
 
--- what an answer says of the maker's count of refusals: a plan leaves it, and PatternSize comes only where
--- it rose
+-- what an answer says of the maker's count of refusals: a plan leaves it, and PatternSize comes
+-- only where it rose
 abbrev pub Counts : {X : Type 0} → ℕ → ℕ → Result X PlanStop → Type 0
 Counts before now (Ok x) = now ≡ before
 Counts before now (Err stop) = IfSome (refused_at stop) (λ at. Rose before now)

@@ -36,7 +36,8 @@ field_named name =
 unfoldable pub resource_field : List ℕ → Option Field
 resource_field name =
     cond (bytes_eq name (codes "attributes")) (Some field.ResourceAttributes)
-    (cond (bytes_eq name (codes "dropped_attributes_count")) (Some field.ResourceDroppedAttributesCount) None)
+    (cond (bytes_eq name (codes "dropped_attributes_count"))
+    (Some field.ResourceDroppedAttributesCount) None)
 
 -- a field of the scope, behind `instrumentation_scope.`
 unfoldable pub scope_field : List ℕ → Option Field
@@ -82,7 +83,8 @@ key_of (written.Index index) = key.Index index
 abbrev pub with_keys : ℕ → List PathKey → Option Field → Result PathTo PlanFault
 with_keys at keys None = Err (fault UnknownPath at)
 with_keys at keys (Some field) =
-    cond (takes_keys field || length keys == 0) (Ok (record { field = field; keys = map key_of keys }))
+    cond (takes_keys field || length keys == 0)
+    (Ok (record { field = field; keys = map key_of keys }))
     (Err (fault UnknownPath at))
 
 -- a path at a place of the text, in a context

@@ -1,5 +1,5 @@
--- What a statement and a condition are planned as in a context, or the first fault of a walk from left to
--- right, each call before its arguments (docs/OTTL.md).
+-- What a statement and a condition are planned as in a context, or the first fault of a walk from
+-- left to right, each call before its arguments (docs/OTTL.md).
 use Rattle.std.specs.Prelude.{ℕ, Bool, true, false, ◌==◌, ◌||◌, nat_lt, cond, codes, ℤ, pos, List, [], ◌∷◌, length, map, Option, Some, None, is_some, Result, Ok, Err}
 use Rattle.std.specs.Str.{bytes_eq}
 use Rattle.func_text.specs.Patterns.{pattern_of}
@@ -339,7 +339,8 @@ value_in context expr = (seen expr).value context
 -- a call of a converter
 abbrev pub conversion_in : Context → Call → Plan Conversion
 conversion_in context call =
-    conversion_of (out-Call call).at (out-Call call).name (map seen (out-Call call).arguments) context
+    conversion_of (out-Call call).at (out-Call call).name
+    (map seen (out-Call call).arguments) context
 
 -- a comparison
 abbrev pub compare_in : Context → Compare → Plan PlannedCompare

@@ -224,7 +224,8 @@ pub(crate) fn plan_literal<P: PatternMaker>(
     wanted: ArgumentKind,
     expr: &Expr,
 ) -> Result<ArgumentLiteral, PlanStop>
-    ensures plan { Plans result (spec.literal_argument wanted (seen expr.now).at (seen expr.now).form) }
+    ensures plan { Plans result
+        (spec.literal_argument wanted (seen expr.now).at (seen expr.now).form) }
     ensures count { Counts (P.refusals maker.old) (P.refusals maker.new) result }
 {
     plan_literal_kind(alloc, maker, wanted, &expr.kind, expr.at)

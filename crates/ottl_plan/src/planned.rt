@@ -1,5 +1,5 @@
-//! Planned statements and conditions: fields and functions stand in place of names, and patterns are
-//! compiled.
+//! Planned statements and conditions: fields and functions stand in place of names, and patterns
+//! are compiled.
 
 ghost use Rattle.std.specs.Prelude.{◌≡◌};
 
@@ -46,9 +46,10 @@ pub struct Conversion {
     pub arguments: Arguments,
 }
 
-/// The arguments of a call, but for its target: values, and all that isn't a value, both in the order
-/// of the call. Those that planning gives have the number and the kinds that the function wants. The
-/// type is plain data and doesn't say so: who reads it has to answer for other shapes too.
+/// The arguments of a call, but for its target: values, and all that isn't a value, both in the
+/// order of the call. Those that planning gives have the number and the kinds that the function
+/// wants. The type is plain data and doesn't say so: who reads it has to answer for other shapes
+/// too.
 #[cycle(planned)]
 #[derive(Drop)]
 pub struct Arguments {

@@ -7,4 +7,5 @@ use Rattle.pdata_value.specs.declared.error.EvalStop.{EvalStop}
 -- a thing became what is meant, or stayed as it was where that is an error, or memory ran out
 abbrev pub Changes : {X Y : Type 0} → Result X EvalErr → X → X → Result Y EvalStop → Type 0
 Changes meant old new (Ok done) = meant ≡ Ok new
-Changes meant old new (Err stop) = (new ≡ old) × IfSome (eval_fault stop) (λ error. meant ≡ Err error)
+Changes meant old new (Err stop) =
+    (new ≡ old) × IfSome (eval_fault stop) (λ error. meant ≡ Err error)

@@ -91,7 +91,8 @@ below_bound bound (negsuc n) = Err Range
 
 -- an integer of 32 bits signed
 abbrev pub small_int : ℤ → Result ℤ EvalErr
-small_int n = cond (int_le (negsuc (2 ^ 31 - 1)) n && int_le n (pos (2 ^ 31 - 1))) (Ok n) (Err Range)
+small_int n =
+    cond (int_le (negsuc (2 ^ 31 - 1)) n && int_le n (pos (2 ^ 31 - 1))) (Ok n) (Err Range)
 
 -- an id of so many bytes
 abbrev pub id_or_bad : Option (List ℕ) → Result (List ℕ) EvalErr
@@ -125,7 +126,8 @@ body_text keys v = plain keys (text_that_fits v) >>= λ text. Ok (kind.Text text
 -- a map: the one that is written, or the old one with a part replaced, where it fits
 abbrev pub map_with : List Key → Value → Pairs → Result Pairs EvalErr
 map_with [] v old = map_taken (out-Value v) >>= λ map. made v >>= λ _. Ok map
-map_with (k ∷ ks) v old = with_walk (k ∷ ks) v (kind.Map old) >>= λ w. made w >>= λ _. map_taken (out-Value w)
+map_with (k ∷ ks) v old =
+    with_walk (k ∷ ks) v (kind.Map old) >>= λ w. made w >>= λ _. map_taken (out-Value w)
 
 -- a value: the one that is written, or the old one with a part replaced, where it fits
 abbrev pub value_with : List Key → Value → Value → Result Value EvalErr
@@ -133,34 +135,48 @@ value_with keys v old = with_walk keys v old >>= made
 
 -- a resource with a value written at a field or below it
 abbrev pub resource_takes : Field → List Key → Value → ResourceNode → Result ResourceNode EvalErr
-resource_takes Attributes keys v r = map_with keys v r.attributes >>= λ map. Ok (record r { attributes = map })
-resource_takes ResourceAttributes keys v r = map_with keys v r.attributes >>= λ map. Ok (record r { attributes = map })
-resource_takes DroppedAttributesCount keys v r = plain keys (u32_taken v) >>= λ n. Ok (record r { dropped = n })
-resource_takes ResourceDroppedAttributesCount keys v r = plain keys (u32_taken v) >>= λ n. Ok (record r { dropped = n })
+resource_takes Attributes keys v r =
+    map_with keys v r.attributes >>= λ map. Ok (record r { attributes = map })
+resource_takes ResourceAttributes keys v r =
+    map_with keys v r.attributes >>= λ map. Ok (record r { attributes = map })
+resource_takes DroppedAttributesCount keys v r =
+    plain keys (u32_taken v) >>= λ n. Ok (record r { dropped = n })
+resource_takes ResourceDroppedAttributesCount keys v r =
+    plain keys (u32_taken v) >>= λ n. Ok (record r { dropped = n })
 resource_takes _ keys v r = Err KindOf
 
 -- a scope with a value written at a field or below it
 abbrev pub scope_takes : Field → List Key → Value → ScopeNode → Result ScopeNode EvalErr
-scope_takes Attributes keys v s = map_with keys v s.attributes >>= λ map. Ok (record s { attributes = map })
-scope_takes InstrumentationScopeAttributes keys v s = map_with keys v s.attributes >>= λ map. Ok (record s { attributes = map })
-scope_takes DroppedAttributesCount keys v s = plain keys (u32_taken v) >>= λ n. Ok (record s { dropped = n })
+scope_takes Attributes keys v s =
+    map_with keys v s.attributes >>= λ map. Ok (record s { attributes = map })
+scope_takes InstrumentationScopeAttributes keys v s =
+    map_with keys v s.attributes >>= λ map. Ok (record s { attributes = map })
+scope_takes DroppedAttributesCount keys v s =
+    plain keys (u32_taken v) >>= λ n. Ok (record s { dropped = n })
 scope_takes Name keys v s = plain keys (text_that_fits v) >>= λ text. Ok (record s { name = text })
-scope_takes InstrumentationScopeName keys v s = plain keys (text_that_fits v) >>= λ text. Ok (record s { name = text })
-scope_takes Version keys v s = plain keys (text_that_fits v) >>= λ text. Ok (record s { version = text })
-scope_takes InstrumentationScopeVersion keys v s = plain keys (text_that_fits v) >>= λ text. Ok (record s { version = text })
+scope_takes InstrumentationScopeName keys v s =
+    plain keys (text_that_fits v) >>= λ text. Ok (record s { name = text })
+scope_takes Version keys v s =
+    plain keys (text_that_fits v) >>= λ text. Ok (record s { version = text })
+scope_takes InstrumentationScopeVersion keys v s =
+    plain keys (text_that_fits v) >>= λ text. Ok (record s { version = text })
 scope_takes _ keys v s = Err KindOf
 
 -- a log record with a value written at a field or below it
 abbrev pub log_takes : Field → List Key → Value → LogRecord → Result LogRecord EvalErr
-log_takes Attributes keys v l = map_with keys v l.attributes >>= λ map. Ok (record l { attributes = map })
-log_takes DroppedAttributesCount keys v l = plain keys (u32_taken v) >>= λ n. Ok (record l { dropped = n })
+log_takes Attributes keys v l =
+    map_with keys v l.attributes >>= λ map. Ok (record l { attributes = map })
+log_takes DroppedAttributesCount keys v l =
+    plain keys (u32_taken v) >>= λ n. Ok (record l { dropped = n })
 log_takes Body keys v l = value_with keys v l.body >>= λ body. Ok (record l { body = body })
 log_takes BodyString keys v l = body_text keys v >>= λ body. Ok (record l { body = body })
 log_takes SeverityNumber keys v l = plain keys (i32_taken v) >>= λ n. Ok (record l { severity = n })
-log_takes SeverityText keys v l = plain keys (text_that_fits v) >>= λ text. Ok (record l { severity_text = text })
+log_takes SeverityText keys v l =
+    plain keys (text_that_fits v) >>= λ text. Ok (record l { severity_text = text })
 log_takes Time keys v l = plain keys (time_taken v) >>= λ n. Ok (record l { time = n })
 log_takes ObservedTime keys v l = plain keys (time_taken v) >>= λ n. Ok (record l { observed = n })
 log_takes Flags keys v l = plain keys (u32_taken v) >>= λ n. Ok (record l { flags = n })
-log_takes TraceIdString keys v l = plain keys (id_taken 16 v) >>= λ id. Ok (record l { trace_id = id })
+log_takes TraceIdString keys v l =
+    plain keys (id_taken 16 v) >>= λ id. Ok (record l { trace_id = id })
 log_takes SpanIdString keys v l = plain keys (id_taken 8 v) >>= λ id. Ok (record l { span_id = id })
 log_takes _ keys v l = Err KindOf

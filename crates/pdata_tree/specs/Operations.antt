@@ -1,5 +1,5 @@
--- What a kind of tree offers to statements and components. Their meaning is stated over this record alone, so that one text
--- serves every kind of tree.
+-- What a kind of tree offers to statements and components. Their meaning is stated over this record
+-- alone, so that one text serves every kind of tree.
 use Rattle.std.specs.Prelude.{ℕ, Bool, List, Result}
 use Rattle.pdata_value.specs.declared.error.EvalErr.{EvalErr}
 use Rattle.pdata_value.specs.declared.value.Value.{Value}

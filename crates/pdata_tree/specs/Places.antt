@@ -31,7 +31,8 @@ IsPlaceIn batch Resource place = IsSome (resource_at batch place)
 IsPlaceIn batch Scope place = IsSome (scope_at batch place)
 IsPlaceIn batch Log place = IsSome (log_at batch place)
 
--- The targets of a context: the places of all its objects, in the order of the tree. Numbers that don't count are 0.
+-- The targets of a context: the places of all its objects, in the order of the tree. Numbers that
+-- don't count are 0.
 
 -- a place
 abbrev pub place_of : ℕ → ℕ → ℕ → Place

@@ -11,20 +11,21 @@ rank Resource = 0
 rank Scope = 1
 rank Log = 2
 
--- The numbers of a scene: nodes that were made, places of its tree that are shared, and per level the nodes that the next
--- write there makes.
+-- The numbers of a scene: nodes that were made, places of its tree that are shared, and per level
+-- the nodes that the next write there makes.
 pub record Numbers : Type 0 where
   pub made : ℕ
   pub left : ℕ
   pub owed : Context → ℕ
 
--- a write at a level made what was owed there, and so much less is shared; then nothing is owed at that level and above,
--- and below it so much less
+-- a write at a level made what was owed there, and so much less is shared; then nothing is owed at
+-- that level and above, and below it so much less
 pub record Makes (level : Context) (old new : Numbers) : Type 0 where
   pub made : new.made ≡ old.made + old.owed level
   pub left : new.left + old.owed level ≡ old.left
   pub above : (other : Context) → rank other ≤ rank level → new.owed other ≡ 0
-  pub below : (other : Context) → rank level ≤ rank other → new.owed other + old.owed level ≡ old.owed other
+  pub below : (other : Context) → rank level ≤ rank other
+      → new.owed other + old.owed level ≡ old.owed other
 
 -- none of the numbers changed
 pub record NumbersStay (old new : Numbers) : Type 0 where

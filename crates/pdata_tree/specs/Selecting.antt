@@ -1,4 +1,5 @@
--- Parts of a tree that are kept. Scopes and resources without log records go, but where whole resources are kept.
+-- Parts of a tree that are kept. Scopes and resources without log records go, but where whole
+-- resources are kept.
 use Rattle.std.specs.Prelude.{Bool, true, false, List, [], ◌∷◌, ◌++◌, length, drop}
 use Rattle.pdata_tree.specs.Tree.{records_of_scopes}
 use Rattle.pdata_tree.specs.declared.batch.Batch.{Batch}
@@ -21,7 +22,8 @@ scope_with s (l ∷ ls) = record s { logs = l ∷ ls } ∷ []
 -- scopes with the flagged log records, whose flags stand one after another
 abbrev pub kept_scopes : List Bool → List ScopeTree → List ScopeTree
 kept_scopes flags [] = []
-kept_scopes flags (s ∷ ss) = scope_with s (flagged flags s.logs) ++ kept_scopes (drop (length s.logs) flags) ss
+kept_scopes flags (s ∷ ss) =
+    scope_with s (flagged flags s.logs) ++ kept_scopes (drop (length s.logs) flags) ss
 
 -- a resource with these scopes, if there are any
 abbrev pub resource_with : ResourceTree → List ScopeTree → List ResourceTree
@@ -32,7 +34,8 @@ resource_with r (s ∷ ss) = record r { scopes = s ∷ ss } ∷ []
 abbrev pub kept_in : List Bool → List ResourceTree → List ResourceTree
 kept_in flags [] = []
 kept_in flags (r ∷ rs) =
-    resource_with r (kept_scopes flags r.scopes) ++ kept_in (drop (records_of_scopes r.scopes) flags) rs
+    resource_with r (kept_scopes flags r.scopes)
+    ++ kept_in (drop (records_of_scopes r.scopes) flags) rs
 
 -- the tree with the flagged log records, one flag for each in the order of the tree
 abbrev pub kept : List Bool → Batch → Batch

@@ -47,7 +47,8 @@ walk (k ∷ ks) v = below k v >>= walk ks
 -- What a value becomes where its part below a key changes by `change`.
 
 -- of pairs: the first value with the name changes; where there is none, nil does and is added
-abbrev pub name_put : List ℕ → (Value → Result Value EvalErr) → List (List ℕ × Value) → Result Value EvalErr
+abbrev pub name_put : List ℕ → (Value → Result Value EvalErr) → List (List ℕ × Value)
+    → Result Value EvalErr
 name_put name change ps = change (or_nil (get ps name)) >>= λ v. Ok (map_of (put ps name v))
 
 -- under a name: of a map its pairs change, of nil a map is made
@@ -59,7 +60,8 @@ with_name name change _ = Err KindOf
 -- at an index: the element of a list that is there changes
 abbrev pub with_index : ℕ → (Value → Result Value EvalErr) → Layer → Result Value EvalErr
 with_index i change (Value-F.List list) =
-    in_range (slice_get (items list) i) >>= λ old. change old >>= λ v. Ok (list_of (slice_set (items list) i v))
+    in_range (slice_get (items list) i) >>= λ old. change old
+    >>= λ v. Ok (list_of (slice_set (items list) i v))
 with_index i change _ = Err KindOf
 
 -- below one key

@@ -7,7 +7,8 @@ use hex::FromHex;
 use pdata_value::Text;
 use std::alloc::{AllocError, Global};
 
-/// The id that a text spells: none where it is empty, else two hexadecimal digits of either case for each byte.
+/// The id that a text spells: none where it is empty, else two hexadecimal digits of either case
+/// for each byte.
 pub fn id_of<const N: usize>(text: &str) -> Option<[u8; N]>
     ensures { result ≡ spec.id_bytes N text.now }
 {

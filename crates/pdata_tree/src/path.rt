@@ -7,8 +7,8 @@ use crate::place::Context;
 use item_list::ItemList;
 use pdata_value::Text;
 
-/// What a path begins with, in the table of paths of docs/OTTL.md. `time` and `time_unix_nano` are one field, and so are
-/// `observed_time` and `observed_time_unix_nano`.
+/// What a path begins with, in the table of paths of docs/OTTL.md. `time` and `time_unix_nano` are
+/// one field, and so are `observed_time` and `observed_time_unix_nano`.
 #[derive(Clone, Copy, Debug, PartialEq, Eq)]
 pub enum Field {
     /// Of the context's own object.

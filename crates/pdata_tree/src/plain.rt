@@ -12,7 +12,8 @@ use crate::seen::Seen;
 use crate::tree_access::{look_at, write_at};
 use pdata_value::{EvalStop, Value};
 
-/// A scene on a lent tree that shares nothing. At a place that isn't in the tree every call is KindOf.
+/// A scene on a lent tree that shares nothing. At a place that isn't in the tree every call is
+/// KindOf.
 #[derive(Drop)]
 pub struct PlainScene<'a> {
     tree: &'a mut Batch,

@@ -99,7 +99,8 @@ fn take_under(map: &mut Pairs, name: &Text) -> Value
 fn take_element(list: &mut Values, index: u64) -> Result<Value, EvalStop>
     ensures value { Answers result (in_range (slice_get (items list.old) index)) }
     ensures within { OnOk result (index < length (items list.new)) }
-    ensures rest { OnOk result ((v : Value) → slice_set (items list.new) index v ≡ slice_set (items list.old) index v) }
+    ensures rest { OnOk result
+        ((v : Value) → slice_set (items list.new) index v ≡ slice_set (items list.old) index v) }
 {
     let index = index as usize;
     match list.at(index) {

@@ -73,7 +73,8 @@ pub(crate) fn write_at(
     path: &PathTo,
     value: Value,
 ) -> Result<(), EvalStop>
-    ensures { Changes (spec.with_path path.now value batch.old context place) batch.old batch.new result }
+    ensures { Changes
+        (spec.with_path path.now value batch.old context place) batch.old batch.new result }
 {
     if !path.field.is_of(context) {
         return Err(EvalStop::Err(EvalErr::KindOf));
@@ -91,7 +92,9 @@ fn write_resource_at(
     path: &PathTo,
     value: Value,
 ) -> Result<(), EvalStop>
-    ensures { Changes (spec.change_at place.resource (spec.written_in level path.now.field path.now.keys value place) resources.old)
+    ensures { Changes
+        (spec.change_at place.resource
+        (spec.written_in level path.now.field path.now.keys value place) resources.old)
         resources.old resources.new result }
 {
     let index = place.resource as usize;
@@ -130,7 +133,9 @@ fn write_scope_at(
     path: &PathTo,
     value: Value,
 ) -> Result<(), EvalStop>
-    ensures { Changes (spec.change_at place.scope (spec.scope_written path.now.field path.now.keys value) scopes.old)
+    ensures { Changes
+        (spec.change_at place.scope
+        (spec.scope_written path.now.field path.now.keys value) scopes.old)
         scopes.old scopes.new result }
 {
     let index = place.scope as usize;
@@ -154,7 +159,9 @@ fn write_log_in(
     path: &PathTo,
     value: Value,
 ) -> Result<(), EvalStop>
-    ensures { Changes (spec.change_at place.scope (spec.change_log place (log_takes path.now.field path.now.keys value)) scopes.old)
+    ensures { Changes
+        (spec.change_at place.scope
+        (spec.change_log place (log_takes path.now.field path.now.keys value)) scopes.old)
         scopes.old scopes.new result }
 {
     let index = place.scope as usize;
@@ -172,7 +179,8 @@ fn write_log_at(
     path: &PathTo,
     value: Value,
 ) -> Result<(), EvalStop>
-    ensures { Changes (spec.change_at place.log (log_takes path.now.field path.now.keys value) logs.old)
+    ensures { Changes
+        (spec.change_at place.log (log_takes path.now.field path.now.keys value) logs.old)
         logs.old logs.new result }
 {
     let index = place.log as usize;

@@ -116,7 +116,8 @@ fn put_body_string(body: &mut Value, keys: &[Key], value: Value) -> Result<(), E
 }
 
 fn put_u32(number: &mut u32, keys: &[Key], value: &Value) -> Result<(), EvalStop>
-    ensures { Changes (spec.plain keys.now (spec.u32_taken value.now)) number.old number.new result }
+    ensures { Changes
+        (spec.plain keys.now (spec.u32_taken value.now)) number.old number.new result }
 {
     alone(keys)?;
     *number = u32_of(value)?;
@@ -124,7 +125,8 @@ fn put_u32(number: &mut u32, keys: &[Key], value: &Value) -> Result<(), EvalStop
 }
 
 fn put_i32(number: &mut i32, keys: &[Key], value: &Value) -> Result<(), EvalStop>
-    ensures { Changes (spec.plain keys.now (spec.i32_taken value.now)) number.old number.new result }
+    ensures { Changes
+        (spec.plain keys.now (spec.i32_taken value.now)) number.old number.new result }
 {
     alone(keys)?;
     *number = i32_of(value)?;

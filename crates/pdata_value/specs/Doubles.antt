@@ -9,7 +9,8 @@ abbrev pub some_of : List Bool → Bool
 some_of [] = false
 some_of (b ∷ bs) = b || some_of bs
 
--- a value whose elements have a double or not: a double itself, a list or a map of which an element has one
+-- a value whose elements have a double or not: a double itself, a list or a map of which an element
+-- has one
 abbrev pub double_step : Value-F Bool Bool Bool → Bool
 double_step (Value-F.Double spelling) = true
 double_step (Value-F.List within) = within

@@ -21,5 +21,6 @@ abbrev pub Lists : {W : Type 0} → BTreeMap (Bor (List ℕ)) W → List (List �
 Lists index keys = (key : List ℕ) → is_some (at_key index key) ≡ is_listed keys key
 
 -- one key is given something in an index, and the others stay
-abbrev pub Gains : {W : Type 0} → BTreeMap (Bor (List ℕ)) W → List ℕ → W → BTreeMap (Bor (List ℕ)) W → Type 0
+abbrev pub Gains : {W : Type 0} → BTreeMap (Bor (List ℕ)) W → List ℕ → W
+    → BTreeMap (Bor (List ℕ)) W → Type 0
 Gains old key w new = (q : List ℕ) → at_key new q ≡ cond (bytes_eq key q) (Some w) (at_key old q)

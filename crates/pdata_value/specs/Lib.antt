@@ -9,7 +9,8 @@ pub mod Errors
 pub mod Answers
 pub mod Wanted
 pub mod Shown
--- Inside this crate: where a text is held, how a numeral is read, where a pair stands, and indexes of keys.
+-- Inside this crate: where a text is held, how a numeral is read, where a pair stands, and indexes
+-- of keys.
 pub mod Held
 pub mod Scan
 pub mod Places

@@ -44,4 +44,5 @@ IsNumeral text = spells numeral text
 
 -- a numeral or one of the words
 abbrev pub IsSpelling : List ℕ → Type 0
-IsSpelling text = IsNumeral text ⊎ (text ≡ codes "NaN") ⊎ (text ≡ codes "Infinity") ⊎ (text ≡ codes "-Infinity")
+IsSpelling text =
+    IsNumeral text ⊎ (text ≡ codes "NaN") ⊎ (text ≡ codes "Infinity") ⊎ (text ≡ codes "-Infinity")

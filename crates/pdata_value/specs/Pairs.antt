@@ -44,11 +44,13 @@ takes Update had = had
 takes Upsert had = true
 
 -- the pairs that the strategy takes
-abbrev pub taken : {V : Type 0} → Strategy → List (List ℕ × V) → List (List ℕ × V) → List (List ℕ × V)
+abbrev pub taken : {V : Type 0} → Strategy → List (List ℕ × V) → List (List ℕ × V)
+    → List (List ℕ × V)
 taken strategy ps qs = filter (λ q. takes strategy (has_key ps q.0)) qs
 
 -- the pairs that the strategy takes are put one after another
-abbrev pub merged : {V : Type 0} → Strategy → List (List ℕ × V) → List (List ℕ × V) → List (List ℕ × V)
+abbrev pub merged : {V : Type 0} → Strategy → List (List ℕ × V) → List (List ℕ × V)
+    → List (List ℕ × V)
 merged strategy ps qs = put_all ps (taken strategy ps qs)
 
 -- the first of two answers that is one

@@ -16,7 +16,8 @@ IsNew {V} ps key = (get ps key ≡ None) × ((value : V) → put ps key value �
 abbrev pub PutsAt : {V : Type 0} → List (List ℕ × V) → List ℕ → Option ℕ → Type 0
 PutsAt {V} ps key at =
     MatchOption at (IsNew ps key)
-    (λ i. (i < length ps) × ((pair : List ℕ × V) → slice_get ps i ≡ Some pair → IsFirst ps key i pair))
+    (λ i. (i < length ps)
+    × ((pair : List ℕ × V) → slice_get ps i ≡ Some pair → IsFirst ps key i pair))
 
 -- where the first pair with the key stands
 abbrev pub position : {V : Type 0} → List (List ℕ × V) → List ℕ → Option ℕ

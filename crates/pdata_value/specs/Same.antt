@@ -1,4 +1,5 @@
--- When two values are the same: doubles by spelling, maps by the first value of each key, all else by content.
+-- When two values are the same: doubles by spelling, maps by the first value of each key, all else
+-- by content.
 use Rattle.std.specs.Prelude.{ℕ, Bool, true, false, ◌&&◌, List, [], ◌∷◌, Option, Some, None}
 use Rattle.std.specs.Str.{bytes_eq}
 use Rattle.std.specs.Bool.{beq}
@@ -28,16 +29,19 @@ answer_same (Some is) None = false
 answer_same (Some is) (Some w) = is w
 
 -- at each key of a list of pairs both maps have the same first value
-abbrev pub same_at : {V : Type 0} → List (List ℕ × V) → List (List ℕ × (Value → Bool)) → List (List ℕ × Value) → Bool
+abbrev pub same_at : {V : Type 0} → List (List ℕ × V) → List (List ℕ × (Value → Bool))
+    → List (List ℕ × Value) → Bool
 same_at [] tests others = true
-same_at (p ∷ ps) tests others = answer_same (get tests p.0) (get others p.0) && same_at ps tests others
+same_at (p ∷ ps) tests others =
+    answer_same (get tests p.0) (get others p.0) && same_at ps tests others
 
 -- the same keys, with the same first values
 abbrev pub map_same : List (List ℕ × (Value → Bool)) → List (List ℕ × Value) → Bool
 map_same tests others = same_at tests tests others && same_at others tests others
 
 -- the same kind and content
-abbrev pub layer_same : Value-F (Value → Bool) (Pairs → Bool) (Values → Bool) → Value-F Value Pairs Values → Bool
+abbrev pub layer_same : Value-F (Value → Bool) (Pairs → Bool) (Values → Bool)
+    → Value-F Value Pairs Values → Bool
 layer_same Value-F.Empty Value-F.Empty = true
 layer_same (Value-F.Text a) (Value-F.Text b) = bytes_eq a b
 layer_same (Value-F.Truth a) (Value-F.Truth b) = beq a b
@@ -58,7 +62,8 @@ abbrev pub same_step_values : Values-F (Value → Bool) (Pairs → Bool) (Values
 same_step_values list other = all_same list.items (items other)
 
 unfoldable pub same : Value → Value → Bool
-same = fold-Value (Value → Bool) (Pairs → Bool) (Values → Bool) same_step same_step_pairs same_step_values
+same = fold-Value (Value → Bool) (Pairs → Bool)
+    (Values → Bool) same_step same_step_pairs same_step_values
 
 -- What the definition comes to on lists and on maps.
 

@@ -46,4 +46,5 @@ is_numeral (b ∷ bs) = cond (b == 45) (is_unsigned bs) (is_unsigned (b ∷ bs))
 
 abbrev pub is_spelling : List ℕ → Bool
 is_spelling text =
-    is_numeral text || bytes_eq text (codes "NaN") || bytes_eq text (codes "Infinity") || bytes_eq text (codes "-Infinity")
+    is_numeral text || bytes_eq text (codes "NaN") || bytes_eq text (codes "Infinity")
+    || bytes_eq text (codes "-Infinity")

@@ -25,8 +25,8 @@ shown_layer (Value-F.Bytes bytes) = Ok (Some (encode_lower bytes))
 shown_layer (Value-F.Double spelling) = Err Double
 shown_layer _ = Err KindOf
 
--- the text of a value: a text itself, an integer in decimal, a truth as `true` or `false`, bytes as lower-case
--- hexadecimal; nil has none, a double is Double, a list or a map is KindOf
+-- the text of a value: a text itself, an integer in decimal, a truth as `true` or `false`, bytes as
+-- lower-case hexadecimal; nil has none, a double is Double, a list or a map is KindOf
 abbrev pub shown : Value → Result (Option (List ℕ)) EvalErr
 shown v = shown_layer (out-Value v)
 

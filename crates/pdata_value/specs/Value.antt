@@ -1,4 +1,5 @@
--- Values as contracts see them: the generated types, in which a list of values or pairs is a record of one list.
+-- Values as contracts see them: the generated types, in which a list of values or pairs is a record
+-- of one list.
 use Rattle.std.specs.Prelude.{ℕ, List}
 use Rattle.pdata_value.specs.declared.value.Value.{Value}
 use Rattle.pdata_value.specs.declared.values.Values.{Values, out-Values}

@@ -14,7 +14,8 @@ use Rattle.pdata_value.specs.declared.values.Values.{Values}
 abbrev pub Layer : Type 0
 Layer = Value-F Value Pairs Values
 
--- a value that isn't of the wanted kind: nil is NilArgument, a double is Double, another kind is KindOf
+-- a value that isn't of the wanted kind: nil is NilArgument, a double is Double, another kind is
+-- KindOf
 abbrev pub not_wanted : {X : Type 0} → Layer → Result X EvalErr
 not_wanted Value-F.Empty = Err NilArgument
 not_wanted (Value-F.Double spelling) = Err Double

@@ -24,14 +24,17 @@ pub fn maps_are_the_same_key_by_key()
 
 /// What is put under a key is found there, and other keys keep what they had.
 pub fn what_is_put_is_found()
-    ensures this_key { (ps : List (List ℕ × Value)) (key : List ℕ) (v : Value) → get (put ps key v) key ≡ Some v }
+    ensures this_key { (ps : List (List ℕ × Value)) (key : List ℕ) (v : Value)
+        → get (put ps key v) key ≡ Some v }
     ensures other_keys { (ps : List (List ℕ × Value)) (key other : List ℕ) (v : Value)
         → (key ≡ other → ⊥) → get (put ps key v) other ≡ get ps other }
 {}
 
-/// Merged into the empty map by upsert, a map gives each key the last value that it has there, and stays as it is where
-/// no key stands twice.
+/// Merged into the empty map by upsert, a map gives each key the last value that it has there, and
+/// stays as it is where no key stands twice.
 pub fn upsert_into_the_empty_map_keeps_last_values()
-    ensures last { (qs : List (List ℕ × Value)) (key : List ℕ) → get (merged Upsert [] qs) key ≡ get_last qs key }
-    ensures distinct { (qs : List (List ℕ × Value)) → IsTrue (is_distinct qs) → merged Upsert [] qs ≡ qs }
+    ensures last { (qs : List (List ℕ × Value)) (key : List ℕ)
+        → get (merged Upsert [] qs) key ≡ get_last qs key }
+    ensures distinct { (qs : List (List ℕ × Value)) → IsTrue (is_distinct qs)
+        → merged Upsert [] qs ≡ qs }
 {}

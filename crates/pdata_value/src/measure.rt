@@ -31,8 +31,9 @@ impl Pairs {
     }
 }
 
-// What is left of `room` once the value is taken from it; None where it doesn't suffice, or where the value is deeper
-// than `levels`. No call goes further down or looks at more values than these allow.
+// What is left of `room` once the value is taken from it; None where it doesn't suffice, or where
+// the value is deeper than `levels`. No call goes further down or looks at more values than these
+// allow.
 #[cycle(room)]
 #[tactic(auto, using(crate::proofs::Measures::depths, crate::proofs::Measures::weights, crate::proofs::Measures::floors))]
 fn room_after(value: &Value, levels: u32, room: u64) -> Option<u64>
@@ -53,8 +54,10 @@ fn room_after(value: &Value, levels: u32, room: u64) -> Option<u64>
 
 #[cycle(room)]
 fn room_after_items(values: &[Value], levels: u32, room: u64) -> Option<u64>
-    ensures { MatchOption result (depth_of_items values.now ≤ levels → room < weight_of_items values.now)
-        (λ left. (depth_of_items values.now ≤ levels) × (left + weight_of_items values.now ≡ room)) }
+    ensures { MatchOption result
+        (depth_of_items values.now ≤ levels → room < weight_of_items values.now)
+        (λ left. (depth_of_items values.now ≤ levels)
+        × (left + weight_of_items values.now ≡ room)) }
 {
     let mut left = room;
     for value in values {
@@ -65,7 +68,8 @@ fn room_after_items(values: &[Value], levels: u32, room: u64) -> Option<u64>
 
 #[cycle(room)]
 fn room_after_pairs(pairs: &[(Text, Value)], levels: u32, room: u64) -> Option<u64>
-    ensures { MatchOption result (depth_of_pairs pairs.now ≤ levels → room < weight_of_pairs pairs.now)
+    ensures { MatchOption result
+        (depth_of_pairs pairs.now ≤ levels → room < weight_of_pairs pairs.now)
         (λ left. (depth_of_pairs pairs.now ≤ levels) × (left + weight_of_pairs pairs.now ≡ room)) }
 {
     let mut left = room;

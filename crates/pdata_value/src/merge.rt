@@ -48,7 +48,8 @@ impl Pairs {
 
     /// Puts the pairs of another map, one after another, as far as the strategy takes their keys.
     pub fn merge(&mut self, mut other: Pairs, strategy: Strategy) -> Result<(), AllocError>
-        ensures ok { OnOk result (pairs_of self.new ≡ merged strategy (pairs_of self.old) (pairs_of other)) }
+        ensures ok { OnOk result
+            (pairs_of self.new ≡ merged strategy (pairs_of self.old) (pairs_of other)) }
         ensures err { OnErr result (self.new ≡ self.old) }
     {
         take_pairs(self.as_slice(), &mut other.items, strategy);

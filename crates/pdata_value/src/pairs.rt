@@ -49,7 +49,8 @@ impl Pairs {
 
     /// The key and the value at a place; None exactly past the end.
     pub fn at(&self, index: usize) -> Option<(&str, &Value)>
-        ensures { option_map (λ pair. (pair.0.now, pair.1.now)) result ≡ slice_get (pairs self.now) index }
+        ensures { option_map (λ pair. (pair.0.now, pair.1.now)) result
+            ≡ slice_get (pairs self.now) index }
     {
         match self.items.at(index) {
             Some(pair) => Some((pair.0.as_str(), &pair.1)),
@@ -108,8 +109,8 @@ impl Pairs {
         }
     }
 
-    /// Gives the first pair with the key this value, and hands back the one that it had; where no pair has the key, the
-    /// value comes back as an Err.
+    /// Gives the first pair with the key this value, and hands back the one that it had; where no
+    /// pair has the key, the value comes back as an Err.
     pub fn replace(&mut self, key: &str, value: Value) -> Result<Value, Value>
         ensures there { IsOk result ↔ IsSome (get (pairs self.old) key.now) }
         ensures new { OnOk result (pairs self.new ≡ put (pairs self.old) key.now value) }

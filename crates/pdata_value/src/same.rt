@@ -14,8 +14,8 @@ use crate::value::Value;
 use std::collections::BTreeMap;
 
 impl Value {
-    /// Whether the values are equal, where doubles are compared by their spelling and maps by the first value of each
-    /// key.
+    /// Whether the values are equal, where doubles are compared by their spelling and maps by the
+    /// first value of each key.
     #[cycle(same)]
     #[tactic(auto, using(crate::proofs::Sames::sames))]
     pub fn same(&self, other: &Value) -> bool

@@ -1,4 +1,5 @@
--- What comes to a forest's nodes where a part of a tree is made anew that shares the nodes of one level.
+-- What comes to a forest's nodes where a part of a tree is made anew that shares the nodes of one
+-- level.
 use Rattle.std.specs.Prelude.{◌≡◌, ◌+◌, ◌<◌, ◌≤◌, ℕ, List, [], ◌∷◌, ◌++◌, filter_map, map}
 use Rattle.pdata_tree.specs.declared.record.LogRecord.{LogRecord}
 use Rattle.pdata_tree.specs.declared.resource.ResourceNode.{ResourceNode}
@@ -14,10 +15,12 @@ use Rattle.share_cow.specs.declared.node.Node.{Node}
 
 -- the scopes at some places
 abbrev pub scopes_at : Places (Node ScopeNode) → Places (Node LogRecord) → List ℕ → List ScopeTree
-scopes_at scopes logs places = filter_map as_scope (map (value nothing (scope_levels scopes logs)) places)
+scopes_at scopes logs places =
+    filter_map as_scope (map (value nothing (scope_levels scopes logs)) places)
 
 -- the resources at some places
-abbrev pub resources_at : Places (Node ResourceNode) → Places (Node ScopeNode) → Places (Node LogRecord)
+abbrev pub resources_at : Places (Node ResourceNode) → Places (Node ScopeNode)
+    → Places (Node LogRecord)
     → List ℕ → List ResourceTree
 resources_at resources scopes logs places =
     filter_map as_resource (map (value nothing (resource_levels resources scopes logs)) places)
@@ -32,7 +35,8 @@ below_resources resources scopes places q =
     sum_over (stands (resource_level resources ∷ scope_level scopes ∷ []) q) places
 
 -- and below a payload
-abbrev pub below_batch : Places (Node Unit) → Places (Node ResourceNode) → Places (Node ScopeNode) → ℕ → ℕ → ℕ
+abbrev pub below_batch : Places (Node Unit) → Places (Node ResourceNode) → Places (Node ScopeNode)
+    → ℕ → ℕ → ℕ
 below_batch batches resources scopes batch q =
     stands (batch_level batches ∷ resource_level resources ∷ scope_level scopes ∷ []) q batch
 

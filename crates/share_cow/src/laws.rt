@@ -19,7 +19,8 @@ pub fn nothing_is_left_without_roots()
 /// and a way to the end of a path made exactly what was owed.
 pub fn a_way_makes_what_it_owes()
     ensures step { (none : Part) (parent old new : ℕ) (before after : List ℕ)
-        (k m k2 m2 : Level Part) (b b2 : Option (Level Part)) (above below : List (Level Part)) (root : ℕ)
+        (k m k2 m2 : Level Part) (b b2 : Option (Level Part)) (above below : List (Level Part))
+        (root : ℕ)
         (front rest : List ℕ) → Copies parent old new before after k m k2 m2 b b2
         → AllCounted (above ++ k ∷ m ∷ onto b below) → IsApart (above ++ k ∷ m ∷ onto b below) root
         → OpenPath above root front parent → k.count parent ≤ 1 → InTree (m ∷ onto b below) old rest

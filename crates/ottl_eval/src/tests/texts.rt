@@ -1,4 +1,5 @@
-//! Statements from their texts, on a resource with the attributes `msg`, `n` and `d` and one log record.
+//! Statements from their texts, on a resource with the attributes `msg`, `n` and `d` and one log
+//! record.
 
 use crate::{Cache, Outcome, run_statement};
 use func_text::RegexMaker;

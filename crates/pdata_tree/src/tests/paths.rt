@@ -271,8 +271,8 @@ fn numbers_lead_into_lists(rt: HostRuntime) -> Result<(), Fail> {
     Ok(())
 }
 
-// How what keys below a field of that record lead to is seen: `v` and `t` where a value or a text is lent, `m` where one
-// is made.
+// How what keys below a field of that record lead to is seen: `v` and `t` where a value or a text
+// is lent, `m` where one is made.
 fn look_keys(alloc: Global, field: Field, keys: &[&str]) -> Result<char, AllocError> {
     let path = path(alloc, field, keys)?;
     let mut batch = with_children(alloc)?;

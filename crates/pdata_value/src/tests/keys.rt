@@ -10,7 +10,8 @@ fn key_of(alloc: Global, number: u32) -> Result<Text, Fail> {
     Ok(text_in(&value)?.copy()?)
 }
 
-// Six hundred pairs whose keys go round three hundred numbers by a step; the values of the second round are other ones.
+// Six hundred pairs whose keys go round three hundred numbers by a step; the values of the second
+// round are other ones.
 fn rounds(alloc: Global, step: u32) -> Result<Pairs, Fail> {
     let mut map = Pairs::new(alloc);
     for i in 0..600u32 {

@@ -1,4 +1,5 @@
-//! Where the objects at a place of a root's tree lie, and whether the way to them is the root's own.
+//! Where the objects at a place of a root's tree lie, and whether the way to them is the root's
+//! own.
 
 ghost use Rattle.std.specs.Prelude.{◌≡◌, ◌↔◌, [], ◌∷◌, IsTrue};
 ghost use Rattle.share_cow.specs.Copies.{InTree, end_of, owed};
@@ -25,7 +26,8 @@ impl Forest {
     /// Where a resource lies, and whether nothing on the way to it is shared.
     pub(crate) fn find_resource(&self, root: &Root, place: Place) -> (u64, bool)
         requires { InTree (levels self.now) root.now (way_to Context.Resource place) }
-        ensures ends { end_of (levels self.now) root.now (way_to Context.Resource place) ≡ result.0 }
+        ensures ends { end_of (levels self.now) root.now (way_to Context.Resource place)
+            ≡ result.0 }
         ensures own { IsTrue result.1
             ↔ (owed (levels self.now) root.now (way_to Context.Resource place) ≡ 0) }
     {
