@@ -3,7 +3,6 @@
 
 mod codes;
 mod digest;
-mod indexing;
 mod parsing;
 
 pub use codes::{decode, hex_text, sha256};

@@ -7,20 +7,15 @@ ghost use Rattle.pdata_value.specs.Answers.{Answers};
 ghost use Rattle.func_code.specs.Codes.{parse_json_of};
 ghost use Rattle.func_code.specs.Json.{member_of, number_of, value_of};
 
-use crate::indexing::put_indexed;
 use func_text::spelled_int;
 use item_list::ItemList;
 use json_text::{Items, Json, JsonFault, JsonKind, Members};
-use pdata_value::{EvalErr, EvalStop, Pairs, Spelling, Value, Values, made, text_in};
+use pdata_value::{EvalErr, EvalStop, Pairs, Spelling, Strategy, Value, Values, made, text_in};
 use std::alloc::{AllocError, Global};
-use std::collections::BTreeMap;
 
 const MAX_BYTES: usize = 16_777_216;
 
 const MAX_DEPTH: u32 = 64;
-
-// The members of an object whose keys are found by going through them.
-const MOST_SEARCHED: usize = 16;
 
 /// The value of a text of JSON. Integers that fit are integers, other numbers are doubles; null is
 /// nil.
@@ -67,28 +62,13 @@ fn values_of(alloc: Global, list: &Items) -> Result<Values, AllocError>
 fn pairs_of(alloc: Global, members: &Members) -> Result<Pairs, AllocError>
     ensures { IfOk result (λ map_of. pairs map_of ≡ put_all [] (map member_of members.now)) }
 {
-    if members.len() > MOST_SEARCHED {
-        return indexed_pairs_of(alloc, members);
+    let mut listed = Pairs::from_list(ItemList::with_capacity(alloc, members.len())?);
+    for member in members.as_slice() {
+        listed.push(member.0.copy()?, value_of(alloc, &member.1)?)?;
     }
     let mut pairs = Pairs::new(alloc);
-    for member in members.as_slice() {
-        pairs.put(member.0.as_str(), value_of(alloc, &member.1)?)?;
-    }
+    pairs.merge(listed, Strategy::Upsert)?;
     Ok(pairs)
-}
-
-// As `pairs_of`, in a time that grows little faster than the number of members.
-#[cycle(value)]
-fn indexed_pairs_of(alloc: Global, members: &Members) -> Result<Pairs, AllocError>
-    ensures { IfOk result (λ map_of. pairs map_of ≡ put_all [] (map member_of members.now)) }
-{
-    let mut items = ItemList::new(alloc);
-    let mut index = BTreeMap::new(alloc);
-    for member in members.as_slice() {
-        let value = value_of(alloc, &member.1)?;
-        put_indexed(&mut items, &mut index, member.0.as_str(), value)?;
-    }
-    Ok(Pairs::from_list(items))
 }
 
 fn number_of(numeral: &Spelling) -> Result<Value, AllocError>

@@ -122,7 +122,7 @@ fn members(alloc: Global, count: usize) -> Result<Value, Fail> {
 #[test]
 fn members_of_large_objects_are_put_in_order(rt: HostRuntime) -> Result<(), Fail> {
     let alloc = rt.alloc();
-    for (count, len, first, last) in [(16usize, 16, 0, 15), (20, 20, 0, 19), (50, 20, 40, 39)] {
+    for (count, len, first, last) in [(20usize, 20, 0, 19), (32, 20, 20, 19), (50, 20, 40, 39)] {
         let Ok(Value::Map(map)) = parse_json(alloc, &members(alloc, count)?) else {
             return Err(Fail::from("no map"));
         };
