@@ -1,13 +1,16 @@
--- What the call of a routing connector answers.
-use Rattle.std.specs.Prelude.{◌≡◌, Result, Ok, Err}
+-- What the calls of a routing connector answer.
+use Rattle.std.specs.Prelude.{◌≡◌, map, Result, Ok, Err}
 use Rattle.conf_json.specs.Account.{Account}
 use Rattle.conf_json.specs.declared.account.Note.{Note}
 use Rattle.conf_json.specs.declared.account.PlainStop.{PlainStop}
 use Rattle.pdata_tree.specs.declared.batch.Batch.{Batch}
 use Rattle.proc_targets.specs.Ends.{StopsAs}
 use Rattle.routing_conn.specs.Meaning.{Judge, Routed}
+use Rattle.routing_conn.specs.declared.forest.Routed.{Routed as Roots_given}
 use Rattle.routing_conn.specs.declared.judging.RowJudge.{RowJudge}
 use Rattle.routing_conn.specs.declared.routing.PlainRouted.{PlainRouted}
+use Rattle.share_cow.specs.Scene.{tree_of}
+use Rattle.share_cow.specs.Store.{Store}
 
 -- the trees that were given
 abbrev pub trees_of : PlainRouted → Routed Batch
@@ -19,6 +22,20 @@ abbrev pub Gives :
     Account → Result PlainRouted PlainStop → Result (Routed Batch × Account) Note → Type 0
 Gives now (Ok given) meant = meant ≡ Ok (trees_of given, now)
 Gives now (Err stop) meant = StopsAs stop meant
+
+-- a call answered what is meant, seen by `view`, and left the account that is meant, or ended with
+-- the note that is meant
+abbrev pub EndsBy :
+    {R X : Type 0} → (R → X) → Account → Result R PlainStop → Result (X × Account) Note → Type 0
+EndsBy view now (Ok answer) meant = meant ≡ Ok (view answer, now)
+EndsBy view now (Err stop) meant = StopsAs stop meant
+
+-- the trees of the roots that were given
+abbrev pub trees_in : Store → Roots_given → Routed Batch
+trees_in forest given = record {
+  rows = map (tree_of forest) given.rows.roots;
+  rest = tree_of forest given.rest;
+}
 
 -- Inside this crate: a row as it is judged.
 
