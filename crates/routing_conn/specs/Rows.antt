@@ -44,7 +44,6 @@ pub record Selects (context : Context) (flags : List Bool) (root part : ℕ) (ol
   pub spare : spare new + 1 ≡ spare old
   pub grew : made old ≤ made new
   pub made : made new ≤ made old + spine (tree_of new part)
-  pub records : new.logs.added ≡ old.logs.added
 
 -- a root was left with a part of its tree
 pub record Retains (context : Context) (flags : List Bool) (root : ℕ) (old new : Store)
@@ -55,7 +54,6 @@ pub record Retains (context : Context) (flags : List Bool) (root : ℕ) (old new
   pub spare : spare new ≡ spare old
   pub grew : made old ≤ made new
   pub made : made new ≤ made old + spine (tree_of new root)
-  pub records : new.logs.added ≡ old.logs.added
 
 -- a row took a part of a root's tree, which was left with the rest
 pub record PartsRow (row : RouteRow) (flags : List Bool) (rest taken : ℕ) (old new : Store)
@@ -63,4 +61,3 @@ pub record PartsRow (row : RouteRow) (flags : List Bool) (rest taken : ℕ) (old
   pub trees : parted log_trees row flags (tree_of old rest) ≡ row_trees new rest taken
   pub routes : Routes rest old new (taken ∷ [])
   pub made : made new ≤ made old + parts_bill row.action (row_trees new rest taken)
-  pub records : new.logs.added ≡ old.logs.added

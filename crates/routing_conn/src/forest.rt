@@ -1,6 +1,6 @@
 //! The tree of a root routed in its forest: a root for each row of the table, and one for the rest.
 
-ghost use Rattle.std.specs.Prelude.{◌≡◌, ◌<◌, [], ◌∷◌, length, IfOk, OnErr, OnOk};
+ghost use Rattle.std.specs.Prelude.{◌≡◌, ◌<◌, [], ◌∷◌, length, IfOk, OnErr};
 ghost use Rattle.fanout.specs.Handing.{AreApart};
 ghost use Rattle.pdata_tree.specs.Operations.{log_trees};
 ghost use Rattle.proc_targets.specs.Ends.{FailsUnder};
@@ -14,7 +14,7 @@ ghost use Rattle.share_cow.specs.Store.{IsLiveRoot, made, spare};
 use crate::rows::route_rows;
 use conf_json::{NoteBook, PlainStop, RouteSettings};
 use ottl_eval::KeptMatchers;
-use proc_targets::or_stop;
+use proc_targets::{narrow, or_stop};
 use share_cow::{Forest, Root, Roots};
 use std::alloc::Global;
 
@@ -51,7 +51,6 @@ pub fn apply<'p>(
     // What is made.
     ensures made { MakesUpTo result (made forest.old) (made forest.new)
         (settings_bill settings.now (tree_of forest.old root.now) book.old) }
-    ensures records { OnOk result (forest.new.logs.added ≡ forest.old.logs.added) }
 
     // What is left where it is stopped.
     ensures err { OnErr result (Gave root.now forest.old forest.new []) }
@@ -59,7 +58,8 @@ pub fn apply<'p>(
     ensures failed { FailsUnder settings.now.error_mode result }
 {
     let before = book.copy();
-    let mut rows = or_stop(Roots::with_room(alloc, settings.table.len() as u32))?;
+    let count = or_stop(narrow(settings.table.len()))?;
+    let mut rows = or_stop(Roots::with_room(alloc, count))?;
     let rest = forest.share(root);
     match route_rows(alloc, settings, forest, &rest, &mut rows, matchers, book) {
         Ok(()) => Ok(Routed { rows, rest }),

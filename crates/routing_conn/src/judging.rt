@@ -122,7 +122,7 @@ impl<'p> RowJudge<'p> {
     }
 
     /// Whether the row matches each object of its context in a root's tree.
-    #[tactic(auto, using(proc_targets::proofs::Flags::flags_turn, proc_targets::proofs::Stops::stops))]
+    #[tactic(auto, using(proc_targets::proofs::Flags::flags_turn, proc_targets::proofs::Inside::inside_tree, proc_targets::proofs::Stops::stops))]
     pub(crate) fn hits_in(
         &self,
         alloc: Global,

