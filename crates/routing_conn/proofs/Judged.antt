@@ -1,5 +1,7 @@
 -- A row that is judged on the tree of a root.
-use Rattle.std.proofs.Common.{◌≡◌, ◌∙◌, ◌≤◌, ◌+◌, ℕ, Bool, List, [], ◌∷◌, Result, Ok, sym, ap, subst, arith}
+use Rattle.std.proofs.Common.{◌≡◌, ◌∙◌, ◌<◌, ◌≤◌, ◌+◌, ℕ, zero, suc, Bool, List, [], ◌∷◌, ◌++◌, drop, length, Some, Result, Ok, Err, sym, ap, subst, refl, arith}
+use Rattle.std.specs.Prelude.{OnOk, slice_get, slice_index_or}
+use Rattle.std.proofs.Math.Seq.{drop-cons}
 use Rattle.conf_json.specs.Account.{Account}
 use Rattle.conf_json.specs.declared.account.Note.{Note}
 use Rattle.conf_json.specs.declared.account.PlainStop.{PlainStop}
@@ -7,18 +9,33 @@ use Rattle.ottl_eval.specs.Stages.{Stage, stage}
 use Rattle.ottl_eval.specs.Values.{holds}
 use Rattle.ottl_plan.specs.declared.planned.PlannedCondition.{PlannedCondition}
 use Rattle.pdata_tree.specs.Operations.{log_trees}
-use Rattle.pdata_tree.specs.Places.{targets}
+use Rattle.pdata_tree.specs.Places.{IsPlaceIn, targets}
 use Rattle.pdata_tree.specs.declared.batch.Batch.{Batch}
 use Rattle.pdata_tree.specs.declared.place.Context.{Context}
 use Rattle.pdata_tree.specs.declared.place.Place.{Place}
+use Rattle.proc_targets.proofs.Flags.{behind, behind_more}
+use Rattle.proc_targets.proofs.Inside.{target_inside}
 use Rattle.proc_targets.specs.Ends.{Ends}
 use Rattle.proc_targets.specs.Judging.{◌>>=◌, no_pairs, truth_after}
 use Rattle.proc_targets.specs.declared.spot.Spot.{Spot}
 use Rattle.share_cow.specs.Scene.{tree_of}
 use Rattle.share_cow.specs.Store.{Store, made}
 use Rattle.routing_conn.specs.Bills.{parts_bill, row_bill}
-use Rattle.routing_conn.specs.Meaning.{Judge, hits, parted, row_gives}
+use Rattle.routing_conn.specs.Meaning.{Judge, hits, matches, parted, row_gives}
 use Rattle.routing_conn.specs.Rows.{PartsRow, Routes, row_trees}
+
+at_index : (places : List Place) (i : ℕ) (d : Place) → i < length places → slice_get places i ≡ Some (slice_index_or places i d)
+at_index [] i d within = absurd (omega (arith, within))
+at_index (p ∷ places) zero d within = refl
+at_index (p ∷ places) (suc i) d within = at_index places i d (omega (arith, within))
+
+-- a target of a root's tree is in the tree
+pub target_at : (old now : Store) (root : ℕ) (context : Context) (places : List Place) (i : ℕ) (d : Place) → now ≡ old
+    → places ≡ targets (tree_of old root) context → i < length places → IsPlaceIn (tree_of now root) context (slice_index_or places i d)
+target_at old now root context places i d same are within =
+    subst (λ (f : Store). IsPlaceIn (tree_of f root) context (slice_index_or places i d)) (sym same)
+    (target_inside (tree_of old root) context i (slice_index_or places i d)
+    (subst (λ (ps : List Place). slice_get ps i ≡ Some (slice_index_or places i d)) are (at_index places i d within)))
 
 abbrev stage_on : Store → ℕ → Context → Place → Stage Batch
 stage_on forest root context place = stage (tree_of forest root) context place no_pairs
@@ -38,6 +55,26 @@ judged_on result spot meant index condition account now given lent at_first root
     subst (λ (s : Stage Batch). Ends now result (truth_after meant index (holds log_trees condition.expr s) account)) stages
     (subst (λ (s : Spot). Ends now result
     (truth_after s index (holds log_trees condition.expr (stage_on given at_first context_first place_first)) account)) spot_is h)
+
+-- what a call left that answered Ok
+pub when_ok : {X E : Type 0} (P : Type 0) (result : Result X E) (value : X) → OnOk result P → result ≡ Ok value → P
+when_ok P (Ok x) value h is = h
+when_ok P (Err error) value h is = absurd (cc is)
+
+-- one place more was judged
+pub hits_on : (judge : Judge) (tree later : Batch) (places : List Place) (i : ℕ) (d : Place) (flags more : List Bool) (hit : Bool) (a b : Account)
+    → later ≡ tree → i < length places → more ≡ flags ++ hit ∷ [] → matches log_trees judge tree (slice_index_or places i d) a ≡ Ok (hit, b)
+    → behind more (hits log_trees judge later (drop (i + 1) places) b) ≡ behind flags (hits log_trees judge tree (drop i places) a)
+hits_on judge tree later places i d flags more hit a b same within pushed judged =
+    let next : suc i ≡ i + 1 = omega arith in
+    let rest = hits log_trees judge tree (drop (i + 1) places) in
+    ap (λ (t : Batch). behind more (hits log_trees judge t (drop (i + 1) places) b)) same
+    ∙ ap (λ (front : List Bool). behind front (rest b)) pushed
+    ∙ behind_more flags hit (rest b)
+    ∙ ap (λ (first : Result (Bool × Account) Note).
+    behind flags (first >>= λ first. rest first.1 >>= λ others. Ok (first.0 ∷ others.0, others.1))) (sym judged)
+    ∙ ap (λ (ps : List Place). behind flags (hits log_trees judge tree ps a))
+    (sym (drop-cons places i d within ∙ ap (λ (n : ℕ). slice_index_or places i d ∷ drop n places) next))
 
 -- a row was judged on a root's tree, which was parted
 module _ (judge : Judge) (old now new : Store) (rest taken : ℕ) (flags : List Bool) (a b : Account) (same : now ≡ old)

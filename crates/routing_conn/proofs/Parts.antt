@@ -116,34 +116,3 @@ module _ (context : Context) (flags : List Bool) (rest taken : ℕ) (old mid now
     spare = omega (arith, selects.spare, all.spare, entries);
     grew = omega (arith, selects.grew, all.made, count);
   }
-
--- A part that was made, and the tree that is left.
-module _ (row : RouteRow) (flags : List Bool) (rest taken : ℕ) (old mid new : Store) (live : IsLiveRoot old rest) where
-  old_or_taken : Store → (r : ℕ) → SharesWith rest taken old mid → IsLiveRoot mid r → (r ≡ taken) ⊎ (r ≢ taken) → IsLiveRoot old r ⊎ Contains (taken ∷ []) r
-  old_or_taken s r others there (inl is) = inr (subst (λ (q : ℕ). Contains (taken ∷ []) q) (sym is) (first_there taken []))
-  old_or_taken s r others there (inr isnt) = inl ((others.trees r isnt).live.0 there)
-
-  -- a row that copies
-  pub copied : row.action ≡ Copy → Selects row.context flags rest taken old mid → PartsRow row flags rest taken old mid
-  copied is selects =
-      let rest_is : tree_of mid rest ≡ tree_of old rest =
-      ap batch_or_empty (selects.others.trees rest (free_apart old rest taken live selects.fresh)).tree in
-      record {
-        trees =
-            ap (λ (left : Batch). (part_of log_trees row.context flags (tree_of old rest), left))
-            (ap (λ (action : Action). left_by log_trees action row.context flags (tree_of old rest)) is ∙ sym rest_is)
-            ∙ ap (λ (part : Batch). (part, tree_of mid rest)) (sym selects.tree);
-        routes = record {
-          own = (selects.others.trees rest (free_apart old rest taken live selects.fresh)).live.1 live;
-          live = λ r h. subst (IsLiveRoot mid) (sym (one_there taken r h)) selects.live;
-          fresh = λ r h. subst (λ (q : ℕ). root_at old q ≡ None) (sym (one_there taken r h)) selects.fresh;
-          apart = (λ h. none_there taken h, tt);
-          no_other = λ r there. old_or_taken mid r selects.others there (same_or_not r taken);
-          trees = λ r lived apart. selects.others.trees r (free_apart old r taken lived selects.fresh);
-          shared = λ r lived apart. selects.others.shared r (free_apart old r taken lived selects.fresh) apart;
-          spare = omega (arith, selects.spare);
-          grew = selects.grew;
-        };
-        made =
-            subst (λ (action : Action). made mid ≤ made old + parts_bill action (row_trees mid rest taken)) (sym is) selects.made;
-      }

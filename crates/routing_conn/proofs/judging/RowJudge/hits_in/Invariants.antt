@@ -10,11 +10,11 @@ use Rattle.routing_conn.proofs.judging.RowJudge.hits_in.Given as goal
 -- the flags so far, then those of the places left, are all
 abbrev pub invariant-loop-place : goal.invariant-loop-place
 invariant-loop-place l =
-    let tree = tree_of l.initial.forest l.root in
+    let first = tree_of l.initial.forest l.root in
     record {
       value :
-          behind l.flags (hits log_trees (judge_of l.self) tree (drop l.place-index l.place-items) l.book)
-          ≡ hits log_trees (judge_of l.self) tree l.place-items l.initial.book;
-      places : l.place-items ≡ targets tree l.self.row.now.context;
+          behind l.flags (hits log_trees (judge_of l.self) (tree_of l.forest l.root) (drop l.place-index l.place-items) l.book)
+          ≡ hits log_trees (judge_of l.self) first l.place-items l.initial.book;
+      places : l.place-items ≡ targets first l.self.row.now.context;
       forest : l.forest ≡ l.initial.forest;
     }
