@@ -63,7 +63,7 @@ module _ (rest : ℕ) (old now new : Store) (rows more : List ℕ) (lived : IsLi
     no_other = λ r live. one_of_all r (step.no_other r live);
     trees = λ r live apart. let a = before.trees r live apart in same_on old now new r a (step.trees r (a.live.1 live) apart);
     shared = λ r live apart.
-    omega (arith, before.shared r live apart, step.shared r ((before.trees r live apart).live.1 live) apart);
+        omega (arith, before.shared r live apart, step.shared r ((before.trees r live apart).live.1 live) apart);
     spare = omega (arith, before.spare, step.spare, length-append rows more);
     grew = omega (arith, before.grew, step.grew);
   }
@@ -98,14 +98,14 @@ module _ (lent rest : ℕ) (old mid new : Store) (rows : List ℕ) (shares : Sha
     apart = (λ h. not_both mid rest live (step.fresh rest h), step.apart);
     no_other = λ r there. no_more r (step.no_other r there);
     trees = λ r lived.
-    let a = shares.trees r (isnt_rest r lived) in
-    same_on old mid new r a (step.trees r (a.live.1 lived) (isnt_rest r lived));
+        let a = shares.trees r (isnt_rest r lived) in
+        same_on old mid new r a (step.trees r (a.live.1 lived) (isnt_rest r lived));
     shared = λ r lived apart.
-    omega (
-      arith,
-      shares.shared r (isnt_rest r lived) apart,
-      step.shared r ((shares.trees r (isnt_rest r lived)).live.1 lived) (isnt_rest r lived),
-    );
+        omega (
+          arith,
+          shares.shared r (isnt_rest r lived) apart,
+          step.shared r ((shares.trees r (isnt_rest r lived)).live.1 lived) (isnt_rest r lived),
+        );
     spare = omega (arith, entries, step.spare);
     grew = omega (arith, count, step.grew);
   }
@@ -142,8 +142,8 @@ module _ (lent : ℕ) (old now new : Store) (given gone left : List ℕ) (gave :
     fresh = λ r h. gave.fresh r (stays r h);
     apart = apart;
     no_other = λ r live.
-    let here : Contains gone r → ⊥ = λ h. not_both new r live (up.gone r h) in
-    left_or_old r here (gave.no_other r ((up.trees r here).live.0 live));
+        let here : Contains gone r → ⊥ = λ h. not_both new r live (up.gone r h) in
+        left_or_old r here (gave.no_other r ((up.trees r here).live.0 live));
     trees = λ r lived. same_on old now new r (gave.trees r lived) (up.trees r (isnt_gone r lived));
     shared = λ r lived apart. omega (arith, gave.shared r lived apart, up.shared r (isnt_gone r lived));
     spare = omega (arith, gave.spare, up.spare, count);

@@ -111,8 +111,8 @@ module _ (context : Context) (flags : List Bool) (rest taken : ℕ) (old mid now
     no_other = λ r there. inl ((same_behind r (free_apart new r taken there free)).live.0 there);
     trees = λ r lived apart. same_behind r (free_apart old r taken lived selects.fresh);
     shared = λ r lived apart.
-    let isnt = free_apart old r taken lived selects.fresh in
-    omega (arith, selects.others.shared r isnt apart, all.shared r, others.shared r isnt);
+        let isnt = free_apart old r taken lived selects.fresh in
+        omega (arith, selects.others.shared r isnt apart, all.shared r, others.shared r isnt);
     spare = omega (arith, selects.spare, all.spare, entries);
     grew = omega (arith, selects.grew, all.made, count);
   }

@@ -5,33 +5,26 @@ use Rattle.conf_json.specs.declared.account.Note.{Note}
 use Rattle.conf_json.specs.declared.account.PlainStop.{PlainStop}
 use Rattle.pdata_tree.specs.declared.batch.Batch.{Batch}
 use Rattle.proc_targets.specs.Ends.{StopsAs}
-use Rattle.routing_conn.specs.Meaning.{Judge, Routed}
-use Rattle.routing_conn.specs.declared.forest.Routed.{Routed as Roots_given}
-use Rattle.routing_conn.specs.declared.judging.RowJudge.{RowJudge}
-use Rattle.routing_conn.specs.declared.routing.PlainRouted.{PlainRouted}
 use Rattle.share_cow.specs.Scene.{tree_of}
 use Rattle.share_cow.specs.Store.{Store}
+use Rattle.routing_conn.specs.Meaning.{Judge, Routed}
+use Rattle.routing_conn.specs.declared.forest.Routed.{Routed as GivenRoots}
+use Rattle.routing_conn.specs.declared.judging.RowJudge.{RowJudge}
+use Rattle.routing_conn.specs.declared.routing.PlainRouted.{PlainRouted}
 
--- the trees that were given
-abbrev pub trees_of : PlainRouted → Routed Batch
-trees_of given = record { rows = given.rows; rest = given.rest }
-
--- the trees that are meant were given, and the account is the one that is meant, or the work ended
--- with the note that is meant
-abbrev pub Gives :
-    Account → Result PlainRouted PlainStop → Result (Routed Batch × Account) Note → Type 0
-Gives now (Ok given) meant = meant ≡ Ok (trees_of given, now)
-Gives now (Err stop) meant = StopsAs stop meant
-
--- a call answered what is meant, seen by `view`, and left the account that is meant, or ended with
--- the note that is meant
+-- the answer, seen by `view`, and the account are those that are meant, or the work ended with the
+-- note that is meant
 abbrev pub EndsBy :
     {R X : Type 0} → (R → X) → Account → Result R PlainStop → Result (X × Account) Note → Type 0
 EndsBy view now (Ok answer) meant = meant ≡ Ok (view answer, now)
 EndsBy view now (Err stop) meant = StopsAs stop meant
 
+-- the trees that were given
+abbrev pub trees_of : PlainRouted → Routed Batch
+trees_of given = record { rows = given.rows; rest = given.rest }
+
 -- the trees of the roots that were given
-abbrev pub trees_in : Store → Roots_given → Routed Batch
+abbrev pub trees_in : Store → GivenRoots → Routed Batch
 trees_in forest given = record {
   rows = map (tree_of forest) given.rows.roots;
   rest = tree_of forest given.rest;

@@ -3,7 +3,7 @@
 ghost use Rattle.std.specs.Prelude.{◌≡◌, ◌<◌, [], ◌∷◌, length, IfOk, OnErr};
 ghost use Rattle.fanout.specs.Handing.{AreApart};
 ghost use Rattle.pdata_tree.specs.Operations.{log_trees};
-ghost use Rattle.proc_targets.specs.Ends.{FailsUnder};
+ghost use Rattle.proc_targets.specs.Ends.{FailsUnder, Stays};
 ghost use Rattle.routing_conn.specs.Answers.{EndsBy, trees_in};
 ghost use Rattle.routing_conn.specs.Bills.{MakesUpTo, settings_bill};
 ghost use Rattle.routing_conn.specs.Given.{AreLive, Gave, GivesUp};
@@ -45,6 +45,7 @@ pub fn apply<'p>(
     // What is given.
     ensures value { EndsBy (trees_in forest.new) book.new result
         (routed log_trees settings.now (tree_of forest.old root.now) book.old) }
+    ensures stays { Stays settings.now.error_mode book.old book.new }
     ensures roots { IfOk result
         (λ given. Gave root.now forest.old forest.new (given.rest ∷ given.rows.roots)) }
 

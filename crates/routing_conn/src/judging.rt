@@ -106,6 +106,7 @@ impl<'p> RowJudge<'p> {
         ensures value { Ends book.new result (spec.matches log_trees (judge_of self.now)
             (tree_of forest.old root.now) place book.old) }
         ensures forest { forest.new ≡ forest.old }
+        ensures stays { Stays self.now.mode book.old book.new }
         ensures failed { FailsUnder self.now.mode result }
     {
         let spot = self.spot(place);
@@ -136,6 +137,7 @@ impl<'p> RowJudge<'p> {
             (tree_of forest.old root.now)
             (targets (tree_of forest.old root.now) self.now.row.now.context) book.old) }
         ensures forest { forest.new ≡ forest.old }
+        ensures stays { Stays self.now.mode book.old book.new }
         ensures failed { FailsUnder self.now.mode result }
     {
         let places = or_stop(list_targets_of(alloc, &forest.view(root), self.row.context))?;

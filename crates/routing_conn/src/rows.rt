@@ -2,7 +2,7 @@
 
 ghost use Rattle.std.specs.Prelude.{◌≡◌, ◌<◌, ◌≤◌, [], ◌∷◌, length, IfOk, OnErr};
 ghost use Rattle.pdata_tree.specs.Operations.{log_trees};
-ghost use Rattle.proc_targets.specs.Ends.{FailsUnder};
+ghost use Rattle.proc_targets.specs.Ends.{FailsUnder, Stays};
 ghost use Rattle.routing_conn.specs.Answers.{EndsBy, judge_of};
 ghost use Rattle.routing_conn.specs.Bills.{MakesUpTo, bill_of, row_bill};
 ghost use Rattle.routing_conn.specs.Meaning.{judges, routed_by, row_gives};
@@ -38,6 +38,7 @@ pub(crate) fn route_rows<'p>(
     ensures made { MakesUpTo result (made forest.old) (made forest.new)
         (bill_of (judges settings.now.error_mode 0 settings.now.table)
         (tree_of forest.old rest.now) book.old) }
+    ensures stays { Stays settings.now.error_mode book.old book.new }
     ensures failed { FailsUnder settings.now.error_mode result }
 {
     let mode = settings.error_mode;
@@ -66,6 +67,7 @@ fn route_row<'p>(
     ensures err { OnErr result (Routes rest.now forest.old forest.new []) }
     ensures made { MakesUpTo result (made forest.old) (made forest.new) (row_bill judge.now.row.now
         (row_gives log_trees (judge_of judge.now) (tree_of forest.old rest.now) book.old)) }
+    ensures stays { Stays judge.now.mode book.old book.new }
     ensures failed { FailsUnder judge.now.mode result }
 {
     let hits = judge.hits_in(alloc, forest, rest, matchers, book)?;

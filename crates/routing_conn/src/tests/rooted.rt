@@ -98,7 +98,13 @@ fn alone(alloc: Global, error_mode: ErrorMode, third: &str) -> Result<String, Fa
     push_end(&mut text, &forest, end)?;
     push_tree(&mut text, &forest, &root)?;
     let (made, spare) = (forest.made(), forest.spare());
-    Ok(format!(in alloc; "{} errors {} made {} spare {}", text.as_str(), errors, made, spare)?)
+    Ok(format!(in alloc;
+        "{} errors {} made {} spare {}",
+        text.as_str(),
+        errors,
+        made,
+        spare
+    )?)
 }
 
 // The same where another root shares the tree, with the other's tree instead of the lent root's.
@@ -111,7 +117,13 @@ fn beside(alloc: Global, error_mode: ErrorMode, third: &str) -> Result<String, F
     push_end(&mut text, &forest, end)?;
     push_tree(&mut text, &forest, &other)?;
     let (made, spare) = (forest.made(), forest.spare());
-    Ok(format!(in alloc; "{} errors {} made {} spare {}", text.as_str(), errors, made, spare)?)
+    Ok(format!(in alloc;
+        "{} errors {} made {} spare {}",
+        text.as_str(),
+        errors,
+        made,
+        spare
+    )?)
 }
 
 // The first row takes `a`, which is one node; the second takes `ab` and `a` in four nodes, and

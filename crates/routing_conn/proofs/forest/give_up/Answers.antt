@@ -17,13 +17,13 @@ roots-preserved c =
     let live : AreLive c.roots.forest (front ++ last ∷ []) = subst (AreLive c.roots.forest) split c.roots.invariant.live in
     record {
       comes = λ new up.
-      c.roots.invariant.comes new
-      (subst (λ (roots : List ℕ). GivesUp roots c.roots.forest new) (sym split)
-      (up_more front last c.roots.forest c.release.new.self new apart c.release.ensures.gone c.release.ensures.others c.release.ensures.spare
-      c.release.ensures.made up));
+          c.roots.invariant.comes new
+          (subst (λ (roots : List ℕ). GivesUp roots c.roots.forest new) (sym split)
+          (up_more front last c.roots.forest c.release.new.self new apart c.release.ensures.gone c.release.ensures.others c.release.ensures.spare
+          c.release.ensures.made up));
       live = λ r h.
-      (c.release.ensures.others.trees r (λ is. apart_last front last apart (subst (λ (q : ℕ). Contains front q) is h))).live.1
-      (live r (Contains-append_left front (last ∷ []) r h));
+          (c.release.ensures.others.trees r (λ is. apart_last front last apart (subst (λ (q : ℕ). Contains front q) is h))).live.1
+          (live r (Contains-append_left front (last ∷ []) r h));
       apart = apart_front front last apart;
     }
 

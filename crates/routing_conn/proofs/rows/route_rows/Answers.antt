@@ -48,6 +48,7 @@ rows-preserved c =
           subst (λ (roots : List ℕ). Routes rest first new roots) (sym c.push.ensures.roots)
           (routes_on rest first now new rows (taken ∷ []) c.requires.live before.routes c.in_ok-taken.ensures.ok);
       bill = omega (arith, billed, bill);
+      stays = λ is. c.route_row.ensures.stays is ∙ before.stays is;
       count = omega (arith, ap length c.push.ensures.roots, length-append rows (taken ∷ []), before.count);
       room = omega (arith, c.push.ensures.room, before.room);
     }

@@ -1,5 +1,6 @@
 use Rattle.std.proofs.Common.{◌≡◌, ◌≤◌, ◌+◌, drop, length, map}
 use Rattle.pdata_tree.specs.Operations.{log_trees}
+use Rattle.proc_targets.specs.Ends.{Stays}
 use Rattle.routing_conn.specs.Bills.{bill_of}
 use Rattle.routing_conn.specs.Meaning.{judges, routed_by}
 use Rattle.routing_conn.specs.Rows.{Routes}
@@ -22,6 +23,7 @@ invariant-rows l =
       bill :
           made l.forest + bill_of left (tree_of l.forest l.rest) l.book
           ≤ made l.initial.forest + bill_of all first l.initial.book;
+      stays : Stays l.settings.error_mode l.initial.book l.book;
       count : length l.rows.roots ≡ l.index;
       room : l.rows.room + l.index ≡ length l.settings.table;
     }

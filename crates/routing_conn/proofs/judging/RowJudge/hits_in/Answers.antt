@@ -27,4 +27,5 @@ loop-place-preserved c =
           ∙ c.loop-place.invariant.value;
       places = c.loop-place.invariant.places;
       forest = c.matches_in.ensures.forest ∙ c.loop-place.invariant.forest;
+      stays = λ is. c.matches_in.ensures.stays is ∙ c.loop-place.invariant.stays is;
     }

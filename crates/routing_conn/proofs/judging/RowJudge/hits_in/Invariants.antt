@@ -2,6 +2,7 @@ use Rattle.std.proofs.Common.{◌≡◌, drop}
 use Rattle.pdata_tree.specs.Operations.{log_trees}
 use Rattle.pdata_tree.specs.Places.{targets}
 use Rattle.proc_targets.proofs.Flags.{behind}
+use Rattle.proc_targets.specs.Ends.{Stays}
 use Rattle.routing_conn.specs.Answers.{judge_of}
 use Rattle.routing_conn.specs.Meaning.{hits}
 use Rattle.share_cow.specs.Scene.{tree_of}
@@ -17,4 +18,5 @@ invariant-loop-place l =
           ≡ hits log_trees (judge_of l.self) first l.place-items l.initial.book;
       places : l.place-items ≡ targets first l.self.row.now.context;
       forest : l.forest ≡ l.initial.forest;
+      stays : Stays l.self.mode l.initial.book l.book;
     }
