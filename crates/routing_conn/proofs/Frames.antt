@@ -1,11 +1,11 @@
 -- What calls after one another leave of the roots of a forest.
-use Rattle.std.proofs.Common.{◌≡◌, ◌≢◌, ◌∙◌, ◌≤◌, ◌+◌, ◌⊎◌, inl, inr, ℕ, List, [], ◌∷◌, ◌++◌, length, None, sym, subst, refl, arith}
+use Rattle.std.proofs.Common.{◌≡◌, ◌≢◌, ◌∙◌, ◌+◌, ◌⊎◌, inl, inr, ℕ, List, [], ◌∷◌, ◌++◌, length, None, sym, subst, refl, arith}
 use Rattle.std.specs.Prelude.{Contains}
 use Rattle.std.proofs.lemmas.List.{length-append}
 use Rattle.std.proofs.lemmas.List.Elements.{Contains-append_cases, Contains-append_left, Contains-append_right}
 use Rattle.fanout.specs.Handing.{AreApart}
 use Rattle.share_cow.specs.Kept.{OthersStay, SameTree, SharesWith}
-use Rattle.share_cow.specs.Store.{IsLiveRoot, Store, made, root_at, shared, spare}
+use Rattle.share_cow.specs.Store.{IsLiveRoot, Store, made, root_at, spare}
 use Rattle.routing_conn.specs.Given.{Gave, GivesUp}
 use Rattle.routing_conn.specs.Rows.{Routes}
 use Rattle.routing_conn.proofs.Lists.{apart_both, apart_last, first_or_later, first_there, free_apart, free_of, later_there, none_there, not_both, one_there, same_or_not}

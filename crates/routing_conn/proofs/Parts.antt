@@ -1,24 +1,18 @@
 -- Parts of a root's tree that became roots.
-use Rattle.std.proofs.Common.{◌≡◌, ◌≢◌, ◌∙◌, ◌≤◌, ◌+◌, ◌-◌, ◌^◌, ◌⊎◌, inl, inr, ℕ, Bool, List, [], ◌∷◌, Option, None, Some, Result, Ok, Err, refl, sym, ap, subst, arith}
-use Rattle.std.specs.Prelude.{Contains, IfOk, OnErr, OnOk, min, option_map}
-use Rattle.conf_draft.specs.declared.draft.Action.{Action}
-use Rattle.conf_draft.specs.declared.draft.Action.TheVariants.{Copy, Move}
-use Rattle.conf_json.specs.declared.settings.RouteRow.{RouteRow}
-use Rattle.pdata_tree.specs.Operations.{log_trees}
+use Rattle.std.proofs.Common.{◌≡◌, ◌≢◌, ◌∙◌, ◌≤◌, ◌+◌, ◌-◌, ◌^◌, inl, ℕ, Bool, List, [], ◌∷◌, Option, None, Some, Result, Ok, Err, refl, sym, ap, subst, arith}
+use Rattle.std.specs.Prelude.{IfOk, OnErr, OnOk, min, option_map}
 use Rattle.pdata_tree.specs.Selecting.{kept, kept_resources}
 use Rattle.pdata_tree.specs.Tree.{spine}
 use Rattle.pdata_tree.specs.declared.batch.Batch.{Batch}
 use Rattle.pdata_tree.specs.declared.place.Context.{Context}
-use Rattle.pdata_tree.specs.declared.place.Context.TheVariants.{Resource, Scope, Log}
+use Rattle.pdata_tree.specs.declared.place.Context.TheVariants.{Resource}
 use Rattle.share_cow.specs.Kept.{AllStay, OthersStay, SameTree, SharesWith}
 use Rattle.share_cow.specs.Scene.{tree_of}
 use Rattle.share_cow.specs.Store.{IsLiveRoot, Store, den, made, root_at, spare}
 use Rattle.share_cow.specs.Views.{batch_or_empty}
-use Rattle.routing_conn.specs.Bills.{parts_bill}
-use Rattle.routing_conn.specs.Meaning.{left_by, part_of}
-use Rattle.routing_conn.specs.Rows.{PartsRow, Retains, Routes, Selects, row_trees}
+use Rattle.routing_conn.specs.Rows.{Retains, Routes, Selects}
 use Rattle.routing_conn.proofs.Frames.{same_here, same_on}
-use Rattle.routing_conn.proofs.Lists.{first_there, free_apart, none_there, not_both, one_there, same_or_not}
+use Rattle.routing_conn.proofs.Lists.{free_apart, none_there}
 
 pub stay_same : (s t : Store) → t ≡ s → AllStay s t
 stay_same s t is =

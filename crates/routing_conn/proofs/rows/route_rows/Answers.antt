@@ -1,4 +1,4 @@
-use Rattle.std.proofs.Common.{◌≡◌, ◌<◌, ◌≤◌, ◌+◌, ◌∙◌, ◌++◌, [], ◌∷◌, ℕ, List, ap, arith, drop, get_or, length, map, subst, sym}
+use Rattle.std.proofs.Common.{◌≡◌, ◌<◌, ◌≤◌, ◌+◌, ◌∙◌, [], ◌∷◌, ℕ, List, ap, arith, drop, get_or, length, map, subst, sym}
 use Rattle.std.proofs.lemmas.List.{length-append}
 use Rattle.conf_json.specs.declared.settings.RouteRow.{RouteRow}
 use Rattle.pdata_tree.specs.Operations.{log_trees}
