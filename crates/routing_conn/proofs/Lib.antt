@@ -1,1 +1,6 @@
 mod Turns
+mod Lists
+mod Frames
+mod Coming
+mod Parts
+mod Judged

@@ -2,7 +2,7 @@
 
 ghost use Rattle.pdata_tree.specs.Operations.{log_trees};
 ghost use Rattle.proc_targets.specs.Ends.{Ends, FailsUnder, Stays};
-ghost use Rattle.routing_conn.specs.Answers.{Gives, judge_of};
+ghost use Rattle.routing_conn.specs.Answers.{EndsBy, judge_of, trees_of};
 ghost use Rattle.routing_conn.specs.Meaning.{routed, row_gives};
 
 use crate::judging::RowJudge;
@@ -32,7 +32,8 @@ pub fn apply_plain<'p>(
     matchers: &mut KeptMatchers<'p>,
     book: &mut NoteBook,
 ) -> Result<PlainRouted, PlainStop>
-    ensures value { Gives book.new result (routed log_trees settings.now tree book.old) }
+    ensures value { EndsBy trees_of book.new result
+        (routed log_trees settings.now tree book.old) }
     ensures stays { Stays settings.now.error_mode book.old book.new }
     ensures failed { FailsUnder settings.now.error_mode result }
 {

@@ -1,5 +1,7 @@
 //! Small trees are routed, and shown as text.
 
+mod rooted;
+
 use crate::{PlainRouted, apply_plain};
 use conf_json::{Action, ErrorMode, NoteBook, PlainStop, RouteRow, RouteSettings};
 use item_list::ItemList;
