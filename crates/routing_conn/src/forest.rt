@@ -28,9 +28,9 @@ pub struct Routed {
     pub rest: Root,
 }
 
-/// Routes the tree of a root, which stays, with the matchers that are kept. The roots that are
-/// given share what they hold with it: no log record is made. Where it is stopped, no root is left
-/// of it, and the account is as it was before.
+/// Routes the tree of a root, which stays, with the matchers that are kept. It makes no more nodes
+/// than the spines of what rows take, and of what moving rows leave. Where it is stopped, no root is
+/// left of it, and the account is as it was before.
 pub fn apply<'p>(
     alloc: Global,
     settings: &'p RouteSettings,
