@@ -1,0 +1,3 @@
+-- Lemmas on printed literals.
+pub mod Lexed
+pub mod Literals

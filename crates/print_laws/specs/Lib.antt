@@ -1,0 +1,2 @@
+-- What is read from printed literals.
+pub mod Literals
