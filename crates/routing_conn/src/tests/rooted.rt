@@ -1,5 +1,8 @@
 //! The tree of a root is routed in its forest, alone or with another root beside it that shares it.
 
+ghost use Rattle.std.specs.Prelude.{◌<◌, length};
+ghost use Rattle.share_cow.specs.Store.{IsLiveRoot, spare};
+
 use super::{bare, resource, row, show};
 use crate::{RouteStop, Routed, apply, give_up};
 use conf_json::{Action, ErrorMode, NoteBook, RouteSettings};
@@ -183,16 +186,36 @@ fn a_stop_leaves_no_root(rt: HostRuntime) -> Result<(), Fail> {
 fn given_up(alloc: Global) -> Result<(String, u32), Fail> {
     let mut forest = Forest::new(alloc, 6)?;
     let root = forest.plant(tree(alloc, "c")?)?;
-    let (end, _) = route(alloc, ErrorMode::Propagate, &mut forest, &root)?;
-    let Ok(routed) = end else {
-        return Err(AllocError.into());
-    };
-    let Routed { rows, rest } = routed;
-    give_up(&mut forest, rows);
+    let settings = settings(alloc, ErrorMode::Propagate)?;
+    if !forest.holds(&root) || forest.spare() as usize <= settings.table.len() {
+        return Err(Fail::from("no room"));
+    }
+    let rest = kept_rest(alloc, &settings, &mut forest, &root)?;
     let mut text = String::new(alloc);
     push_tree(&mut text, &forest, &rest)?;
     push_tree(&mut text, &forest, &root)?;
     Ok((text, forest.spare()))
+}
+
+// The rest of a routed tree, whose other roots are given up.
+fn kept_rest(
+    alloc: Global,
+    settings: &RouteSettings,
+    forest: &mut Forest,
+    root: &Root,
+) -> Result<Root, Fail>
+    requires live { IsLiveRoot forest.old root.now }
+    requires room { length settings.now.table < spare forest.old }
+{
+    let mut book = NoteBook::new();
+    let mut matchers = KeptMatchers::new(alloc);
+    match apply(alloc, settings, forest, root, &mut matchers, &mut book) {
+        Ok(Routed { rows, rest }) => {
+            give_up(forest, rows);
+            Ok(rest)
+        }
+        Err(_) => Err(Fail::from("not routed")),
+    }
 }
 
 #[test]
